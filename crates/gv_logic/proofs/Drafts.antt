@@ -3,7 +3,7 @@ use Rattle.std.proofs.Common.{◌≡◌, ℕ, ◌+◌, ◌*◌, ◌<◌, ◌≤�
 use Rattle.std.specs.List.{AllByRecursion}
 use Rattle.gv_logic.specs.Circuits.{Gate, Draft, IsDraft, AreEarlier, operand_count}
 
-earlier_more : (p q : ℕ) (gs : List Gate) (g : Gate) → q ≡ p + length gs → AreEarlier p gs → AllByRecursion (λ l. l < 2 * q) g.operands → AreEarlier p (gs ++ g ∷ [])
+pub earlier_more : (p q : ℕ) (gs : List Gate) (g : Gate) → q ≡ p + length gs → AreEarlier p gs → AllByRecursion (λ l. l < 2 * q) g.operands → AreEarlier p (gs ++ g ∷ [])
 earlier_more p q [] g e a o = (subst (λ n. AllByRecursion (λ l. l < 2 * n) g.operands) (let z : q ≡ p = omega arith in z) o, tt)
 earlier_more p q (x ∷ xs) g e a o = (a.0, earlier_more (p + 1) q xs g (omega arith) a.1 o)
 

@@ -5,7 +5,7 @@ use Rattle.gv_logic.specs.declared.gates.Op.{Op}
 use Rattle.gv_logic.specs.declared.gates.Op.TheVariants.{And, Or}
 use Rattle.gv_logic.specs.Circuits.{Gate, Circuit}
 
-abbrev pub number_bytes : ℕ → List ℕ
+unfoldable pub number_bytes : ℕ → List ℕ
 number_bytes n = to_be_bytes w32 n
 
 abbrev pub numbers_bytes : List ℕ → List ℕ
@@ -26,4 +26,4 @@ gates_bytes (g ∷ gs) = gate_bytes g ++ gates_bytes gs
 
 -- the number of inputs, the number of gates, the gates, the root
 abbrev pub circuit_bytes : Circuit → List ℕ
-circuit_bytes g = number_bytes g.inputs ++ number_bytes (length g.gates) ++ gates_bytes g.gates ++ number_bytes g.root
+circuit_bytes g = number_bytes g.inputs ++ (number_bytes (length g.gates) ++ (gates_bytes g.gates ++ number_bytes g.root))

@@ -8,3 +8,4 @@ pub mod Least
 pub mod Literals
 pub mod Logs
 pub mod Partial
+pub mod Reading

@@ -19,10 +19,11 @@ pub enum Op {
     Or,
 }
 
+// A gate as it is kept.
 #[derive(Drop)]
-struct Node {
-    op: Op,
-    operands: Lits,
+pub(crate) struct Node {
+    pub(crate) op: Op,
+    pub(crate) operands: Lits,
 }
 
 impl Model for Node {
@@ -80,7 +81,8 @@ impl Gates {
     /// The operands of gate n, from gate 0.
     pub fn operands(&self, n: u32) -> &[Lit]
         requires { n < length self.now.gates }
-        ensures { (other : Gate) → result.now ≡ (slice_index_or self.now.gates n other).operands }
+        ensures operands { (other : Gate) → result.now ≡ (slice_index_or self.now.gates n other).operands }
+        ensures few { length result.now < 2 ^ 32 }
     {
         let node = &self.nodes[n as usize];
         node.operands.items()
@@ -132,8 +134,20 @@ impl GateList {
         ensures err { OnErr result (self.new ≡ self.old) }
     {
         let operands = Lits::of(self.alloc, operands)?;
+        self.take(Node { op, operands })
+    }
+
+    // `add` for a gate that is made.
+    pub(crate) fn take(&mut self, node: Node) -> Result<Lit, NoMemory>
+        requires earlier { AllByRecursion (λ l. l < 2 * (self.old.inputs + length self.old.gates)) node.operands }
+        requires places { self.old.inputs + length self.old.gates < 2 ^ 30 }
+        requires operands { operand_count self.old.gates + length node.operands ≤ 2 ^ 30 }
+        ensures ok { IfOk result (λ lit. (lit ≡ 2 * (self.old.inputs + length self.old.gates))
+            × (self.new ≡ record self.old { gates = self.old.gates ++ node ∷ [] })) }
+        ensures err { OnErr result (self.new ≡ self.old) }
+    {
         let place = self.inputs + self.nodes.len() as u32;
-        self.nodes.push(Node { op, operands })?;
+        self.nodes.push(node)?;
         Ok(Lit(2 * place))
     }
 
