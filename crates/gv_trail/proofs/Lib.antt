@@ -1,0 +1,9 @@
+pub mod Marks
+pub mod Levels
+pub mod Proper
+pub mod Entries
+pub mod Units
+pub mod Derive
+pub mod Back
+pub mod Push
+pub mod Sweep
