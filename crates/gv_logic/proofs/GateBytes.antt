@@ -1,12 +1,11 @@
 -- Bytes that begin with gates tell the gates.
-use Rattle.std.proofs.Common.{◌≡◌, ℕ, ◌+◌, ◌*◌, ◌<◌, ◌≤◌, ◌^◌, List, [], ◌∷◌, ◌++◌, length, drop, refl, sym, subst, ◌∙◌, ap, append_assoc, length-append, arith}
+use Rattle.std.proofs.Common.{◌≡◌, ℕ, ◌<◌, ◌≤◌, ◌^◌, List, ◌∷◌, ◌++◌, length, drop, sym, ◌∙◌, ap, append_assoc, arith}
 use Rattle.std.specs.List.{AllByRecursion}
 use Rattle.gv_logic.specs.declared.gates.Op.{Op}
-use Rattle.gv_logic.specs.declared.gates.Op.TheVariants.{And, Or}
-use Rattle.gv_logic.specs.Circuits.{Gate, AreEarlier, operand_count}
-use Rattle.gv_logic.specs.Bytes.{number_bytes, numbers_bytes, op_byte, gate_bytes, gates_bytes}
-use Rattle.gv_logic.specs.Reading.{ReadsNumbers, IsFit}
-use Rattle.gv_logic.proofs.Cancel.{number_long, number_same, numbers_same, cons_same}
+use Rattle.gv_logic.specs.Circuits.{Gate}
+use Rattle.gv_logic.specs.Bytes.{number_bytes, numbers_bytes, op_byte, gate_bytes}
+use Rattle.gv_logic.specs.Reading.{IsFit}
+use Rattle.gv_logic.proofs.Cancel.{number_long, number_same}
 
 pub gate_tail : (op : Op) (after : List ℕ) (g : Gate) (rest : List ℕ) → op_byte op ∷ after ≡ gate_bytes g ++ rest
     → after ≡ number_bytes (length g.operands) ++ (numbers_bytes g.operands ++ rest)
@@ -40,6 +39,7 @@ module _ (before after : List ℕ) (op : Op) (bytes : before ≡ op_byte op ∷ 
   pub gate_read : (count bound room : ℕ) (ns tail rest : List ℕ) → count ≤ room → after ≡ number_bytes count ++ tail
       → length ns ≡ count → AllByRecursion (λ n. n < bound) ns → tail ≡ numbers_bytes ns ++ rest
       → IsFit bound room (record { op = op; operands = ns }) × (before ≡ gate_bytes (record { op = op; operands = ns }) ++ rest)
-  gate_read count bound room ns tail rest l a n b t =
-      (record { below = b; few = omega (arith, l, n) },
-      bytes ∙ ap (λ bs. op_byte op ∷ bs) (a ∙ (rw (t, n) (sym (append_assoc (number_bytes count) (numbers_bytes ns) rest)))))
+  gate_read count bound room ns tail rest l a n b t = (
+    record { below = b; few = omega (arith, l, n) },
+    bytes ∙ ap (λ bs. op_byte op ∷ bs) (a ∙ (rw (t, n) (sym (append_assoc (number_bytes count) (numbers_bytes ns) rest)))),
+  )

@@ -1,5 +1,5 @@
 -- The next gate of a loop over gates.
-use Rattle.std.proofs.Common.{◌≡◌, ℕ, suc, ◌+◌, ◌<◌, Bool, List, [], ◌∷◌, ◌++◌, length, get_or, drop, refl, sym, ◌∙◌, ap, append_assoc, add-one, drop-cons, arith}
+use Rattle.std.proofs.Common.{◌≡◌, ℕ, suc, ◌+◌, ◌<◌, Bool, List, [], ◌∷◌, ◌++◌, length, get_or, drop, refl, ◌∙◌, ap, append_assoc, add-one, drop-cons}
 use Rattle.gv_logic.specs.declared.gates.Op.{Op}
 use Rattle.gv_logic.specs.Circuits.{Gate, at, op_value, values_from}
 use Rattle.gv_logic.specs.Bytes.{gate_bytes, gates_bytes}

@@ -1,5 +1,5 @@
 -- The bytes of a circuit tell the circuit.
-use Rattle.std.proofs.Common.{◌≡◌, ℕ, ◌+◌, ◌*◌, ◌<◌, ◌≤◌, ◌^◌, List, [], ◌∷◌, ◌++◌, length, refl, sym, subst, ◌∙◌, ap, append_assoc, append-nil, length-append, arith}
+use Rattle.std.proofs.Common.{◌≡◌, ℕ, ◌+◌, ◌*◌, ◌<◌, ◌≤◌, ◌^◌, List, [], ◌∷◌, ◌++◌, length, refl, sym, subst, ◌∙◌, ap, append-nil, length-append, arith}
 use Rattle.gv_logic.specs.Circuits.{Gate, Draft, Circuit, AreEarlier, operand_count, IsDraft, IsCircuit}
 use Rattle.gv_logic.specs.Bytes.{number_bytes, gates_bytes, circuit_bytes}
 use Rattle.gv_logic.proofs.Cancel.{number_long, number_same}

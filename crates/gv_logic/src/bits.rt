@@ -30,6 +30,16 @@ impl Bits {
         }
     }
 
+    /// These bits.
+    pub fn of(alloc: Global, bits: &[bool]) -> Result<Bits, NoMemory>
+        requires { length bits.now < 2 ^ 32 }
+        ensures { IfOk result (λ list. list ≡ bits.now) }
+    {
+        Ok(Bits {
+            items: bits.to_vec(alloc)?,
+        })
+    }
+
     /// Adds a bit at the end. After an error the list is unchanged; a full list has no room either.
     pub fn add(&mut self, item: bool) -> Result<(), NoMemory>
         ensures ok { OnOk result (self.new ≡ self.old ++ item ∷ []) }

@@ -17,9 +17,7 @@ fn first_number(bytes: &[u8]) -> Option<u32>
     if bytes.len() < 4 {
         return None;
     }
-    Some(u32::from_be_bytes([
-        bytes[0], bytes[1], bytes[2], bytes[3],
-    ]))
+    Some(u32::from_be_bytes([bytes[0], bytes[1], bytes[2], bytes[3]]))
 }
 
 // The bytes that are left.
@@ -73,12 +71,7 @@ impl<'a> Reader<'a> {
 
     // The next literals, so many, each below `bound`; None exactly where these don't come next.
     // Nothing is reserved: a literal is added when its bytes were there.
-    fn literals(
-        &mut self,
-        alloc: Global,
-        count: u32,
-        bound: u32,
-    ) -> Result<Option<Lits>, NoMemory>
+    fn literals(&mut self, alloc: Global, count: u32, bound: u32) -> Result<Option<Lits>, NoMemory>
         ensures { IfOk result (ReadsNumbers count bound self.old self.new) }
     {
         let mut lits = Lits::new(alloc);
@@ -107,12 +100,7 @@ impl<'a> Reader<'a> {
 
     // The next gate, over at most `room` literals below `bound`; None exactly where no such comes
     // next.
-    fn gate(
-        &mut self,
-        alloc: Global,
-        bound: u32,
-        room: u32,
-    ) -> Result<Option<Node>, NoMemory>
+    fn gate(&mut self, alloc: Global, bound: u32, room: u32) -> Result<Option<Node>, NoMemory>
         ensures { IfOk result (ReadsGate bound room self.old self.new) }
     {
         let Some(op) = self.op() else {

@@ -1,4 +1,4 @@
-use Rattle.std.proofs.Common.{◌≡◌, ◌∙◌, ◌<◌, length, arith}
+use Rattle.std.proofs.Common.{◌∙◌, ◌<◌, length, arith}
 use Rattle.gv_logic.proofs.Steps.{bytes_step}
 use Rattle.gv_logic.proofs.bytes.gate_bytes.Goals as goal
 

@@ -1,4 +1,4 @@
-use Rattle.std.proofs.Common.{◌≡◌, ◌∙◌, ◌+◌, ◌<◌, length, ap, drop, arith}
+use Rattle.std.proofs.Common.{◌∙◌, ◌+◌, ◌<◌, length, ap, drop, arith}
 use Rattle.gv_logic.specs.Circuits.{at, op_value, values_from}
 use Rattle.gv_logic.proofs.Steps.{values_step}
 use Rattle.gv_logic.proofs.evaluate.values.Goals as goal

@@ -1,5 +1,5 @@
-use Rattle.std.proofs.Common.{◌≡◌, ◌∙◌, ◌+◌, ◌<◌, ◌^◌, ◌++◌, length, ap, rules, arith}
-use Rattle.gv_logic.proofs.GateBytes.{no_number, no_room, no_operands, gate_read}
+use Rattle.std.proofs.Common.{arith}
+use Rattle.gv_logic.proofs.GateBytes.{no_number, no_room, no_operands}
 use Rattle.gv_logic.proofs.reader.Reader.gate.Goals as goal
 
 pub returns-in_default-number : goal.returns-in_default-number

@@ -1,4 +1,4 @@
-use Rattle.std.proofs.Common.{◌≡◌, ◌∙◌, ◌+◌, ◌<◌, ◌^◌, ◌++◌, length, ap, rules, arith}
+use Rattle.std.proofs.Common.{◌∙◌, length, ap, arith}
 use Rattle.gv_logic.specs.Circuits.{Gate, Draft}
 use Rattle.gv_logic.proofs.ManyGates.{none_next, gates_more, named_same}
 use Rattle.gv_logic.proofs.reader.Reader.gates.Goals as goal

@@ -1,4 +1,4 @@
-use Rattle.std.proofs.Common.{◌≡◌, ◌+◌, ◌<◌, ◌^◌, ◌++◌, length}
+use Rattle.std.proofs.Common.{◌≡◌, ◌+◌, ◌^◌, ◌++◌, length}
 use Rattle.gv_logic.specs.Circuits.{AreEarlier, operand_count}
 use Rattle.gv_logic.specs.Bytes.{gates_bytes}
 use Rattle.gv_logic.proofs.reader.Reader.gates.Given as goal

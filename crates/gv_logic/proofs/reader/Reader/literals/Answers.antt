@@ -1,4 +1,4 @@
-use Rattle.std.proofs.Common.{◌≡◌, ◌∙◌, ◌+◌, ◌<◌, ◌^◌, ◌++◌, length, ap, rules, arith}
+use Rattle.std.proofs.Common.{arith}
 use Rattle.gv_logic.proofs.Cancel.{none_short, none_large, numbers_more}
 use Rattle.gv_logic.proofs.reader.Reader.literals.Goals as goal
 
