@@ -65,6 +65,6 @@ fn a_trail_follows_its_clauses(rt: HostRuntime) -> Result<(), Fail> {
         trail.propagate(&clauses),
         Propagation::Conflict { clause: 3 }
     );
-    assert_eq!(rt; trail.assigned()[0], Lit(5));
+    assert_eq!(rt; trail.of(Lit(4)), Some(false));
     Ok(())
 }
