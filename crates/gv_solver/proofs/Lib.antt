@@ -1,0 +1,16 @@
+pub mod Core
+pub mod Derive
+pub mod Reasons
+pub mod Starts
+pub mod Drop
+pub mod Grow
+pub mod Down
+pub mod Rest
+pub mod Looks
+pub mod Lessons
+pub mod Forced
+pub mod Ends
+pub mod Truth
+pub mod Model
+pub mod Count
+pub mod Gates

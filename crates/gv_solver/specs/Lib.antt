@@ -1,0 +1,10 @@
+pub mod Marks
+pub mod Replay
+pub mod Rests
+pub mod Clash
+pub mod Puts
+pub mod Search
+pub mod Work
+pub mod Rounds
+pub mod Proving
+pub mod Answers

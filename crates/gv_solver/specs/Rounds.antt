@@ -1,0 +1,34 @@
+-- One round of the solver.
+use Rattle.std.specs.Prelude.{◌≡◌, ℕ, ◌+◌, ◌<◌, ◌≤◌, List, length}
+use Rattle.gv_logic.specs.Formulas.{Formula}
+use Rattle.gv_logic.specs.Logs.{IsValid, ProvesNone}
+use Rattle.gv_logic.specs.Partial.{AllQuiet}
+use Rattle.gv_trail.specs.Entries.{State, assignment}
+use Rattle.gv_solver.specs.Search.{IsSearched, IsAssigned}
+use Rattle.gv_solver.specs.Work.{IsWork}
+use Rattle.gv_solver.specs.declared.rounds.Work.{Work}
+use Rattle.gv_solver.specs.declared.rounds.Round.{Round}
+use Rattle.gv_solver.specs.declared.rounds.Round.TheVariants.{Model, Empty, Kept, Full}
+
+-- no clause is false or unit, and all inputs are assigned
+pub record IsModel (cs : List (List ℕ)) (inputs : ℕ) (s : State) : Type 0 where
+  pub searched : IsSearched cs inputs s
+  pub quiet : AllQuiet (assignment s) cs
+  pub assigned : (j : ℕ) → j < inputs → IsAssigned (assignment s) j
+
+-- a valid log whose last clause is empty
+pub record IsRefuted (f : Formula) (old new : Work) : Type 0 where
+  pub valid : IsValid f new.log
+  pub proves : ProvesNone new.log
+  pub count : length new.log ≡ length old.log + 1
+
+pub record IsMore (f : Formula) (inputs budget : ℕ) (old new : Work) : Type 0 where
+  pub work : IsWork f inputs new
+  pub sets : length new.sets ≡ length old.sets + 1
+  pub room : length old.sets < budget
+
+abbrev pub Rounds : Formula → ℕ → ℕ → Work → Work → State → Round → Type 0
+Rounds f inputs budget old new s Model = (new ≡ old) × IsModel new.clauses.clauses inputs s
+Rounds f inputs budget old new s Empty = IsRefuted f old new
+Rounds f inputs budget old new s Kept = IsMore f inputs budget old new
+Rounds f inputs budget old new s Full = (new ≡ old) × (budget ≤ length new.sets)

@@ -1,0 +1,50 @@
+//! The way down: the least undecided input is decided off after each complete propagation.
+
+ghost use Rattle.std.specs.Prelude.{◌+◌, ◌<◌};
+ghost use Rattle.gv_logic.specs.Partial.{AllQuiet};
+ghost use Rattle.gv_trail.specs.Entries.{assignment};
+ghost use Rattle.gv_trail.specs.Told.{Tells};
+ghost use Rattle.gv_solver.specs.Search.{Ready, IsSearch, IsSearched, Arrives};
+
+use crate::probing::{rewind, settle};
+use gv_logic::{Clauses, Lit};
+use gv_trail::{Propagation, Trail};
+
+// Decides an input off, unless it is assigned, and propagates.
+fn step_down(trail: &mut Trail, clauses: &Clauses, inputs: u32, input: u32) -> Propagation
+    requires ready { Ready clauses.now inputs trail.old }
+    requires search { IsSearch clauses.now.clauses input trail.old }
+    requires quiet { AllQuiet (assignment trail.old) clauses.now.clauses }
+    requires below { input < inputs }
+    ensures ready { Ready clauses.now inputs trail.new }
+    ensures search { IsSearch clauses.now.clauses (input + 1) trail.new }
+    ensures told { Tells clauses.now.clauses trail.new result }
+{
+    let off = Lit(2 * input + 1);
+    match trail.of(off) {
+        Some(_) => Propagation::Fixed,
+        None => {
+            trail.decide(off);
+            settle(trail, clauses)
+        }
+    }
+}
+
+/// Decides inputs off until a clause is false or all inputs are assigned.
+pub(crate) fn descend(trail: &mut Trail, clauses: &Clauses, inputs: u32) -> Propagation
+    requires { Ready clauses.now inputs trail.old }
+    ensures ready { Ready clauses.now inputs trail.new }
+    ensures searched { IsSearched clauses.now.clauses inputs trail.new }
+    ensures arrives { Arrives clauses.now.clauses inputs trail.new result }
+{
+    rewind(trail, clauses);
+    if let Propagation::Conflict { clause } = settle(trail, clauses) {
+        return Propagation::Conflict { clause };
+    }
+    for input in 0..inputs {
+        if let Propagation::Conflict { clause } = step_down(trail, clauses, inputs, input) {
+            return Propagation::Conflict { clause };
+        }
+    }
+    Propagation::Fixed
+}
