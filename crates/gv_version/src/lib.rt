@@ -4,6 +4,9 @@
 //! and `begins` by the version order, and the tests of names; nowhere else are a version's bytes read.
 #![tactic(auto)]
 
+mod digits;
+mod form;
 mod names;
+mod pieces;
 
 pub use names::{is_category, is_flag, is_keyword, is_slot};
