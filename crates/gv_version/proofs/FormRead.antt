@@ -128,10 +128,10 @@ body_read s (t ∷ ts) r go hs hr =
     ∙ run-append Underscore (kind_text t.0 ++ t.1) rest in
     ap is_whole state ∙ body_read (run Underscore (kind_text t.0 ++ t.1)) ts r (word_read t.0 t.1 both.0) both.1 hr
 
-small_no_digit : (b : ℕ) → is_small b ≡ true → is_digit b ≡ false
+pub small_no_digit : (b : ℕ) → is_small b ≡ true → is_digit b ≡ false
 small_no_digit b h = grind arith
 
-small_no_dot : (b : ℕ) → is_small b ≡ true → (b == 46) ≡ false
+pub small_no_dot : (b : ℕ) → is_small b ≡ true → (b == 46) ≡ false
 small_no_dot b h = grind arith
 
 letter_read : (b : ℕ) → is_small b ≡ true → next Number b ≡ Letter

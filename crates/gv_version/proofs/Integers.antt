@@ -74,7 +74,7 @@ same_length n m (x ∷ xs) (y ∷ ys) e hx hy =
     ∙ then_then (nat_cmp n m) (nat_cmp x y) (slice_cmp nat_cmp xs ys)
 
 -- Without leading zeros.
-behind_yes : (test : ℕ → Bool) (b : ℕ) (bs : List ℕ) → test b ≡ true → behind test (b ∷ bs) ≡ behind test bs
+pub behind_yes : (test : ℕ → Bool) (b : ℕ) (bs : List ℕ) → test b ≡ true → behind test (b ∷ bs) ≡ behind test bs
 behind_yes test b bs h = rw h (let e : 1 + prefix_len test bs ≡ suc (prefix_len test bs) = omega arith in ap (λ n. drop n (b ∷ bs)) e)
 
 behind_no : (test : ℕ → Bool) (b : ℕ) (bs : List ℕ) → test b ≡ false → behind test (b ∷ bs) ≡ b ∷ bs

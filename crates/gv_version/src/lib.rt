@@ -7,6 +7,10 @@
 mod digits;
 mod form;
 mod names;
+mod order;
 mod pieces;
+mod version;
 
-pub use names::{is_category, is_flag, is_keyword, is_slot};
+pub use names::{is_category, is_flag, is_keyword, is_package, is_slot, split_pf};
+pub use order::{begins, compare, same_but_revision};
+pub use version::{Version, VersionFault, read_version};

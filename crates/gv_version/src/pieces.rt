@@ -3,7 +3,7 @@
 ghost use Rattle.std.specs.Prelude.{◌≡◌, ◌<◌, ◌≤◌, length, true, IfSome, option_map};
 ghost use Rattle.std.specs.List.{prefix_len};
 ghost use Rattle.gv_version.specs.Bytes.{is_small};
-ghost use Rattle.gv_version.specs.PieceReading.{are_digits, next_piece, next_suffix, shown};
+ghost use Rattle.gv_version.specs.PieceReading.{are_digits, next_piece, next_suffix, shown, shown_piece};
 ghost use Rattle.gv_version.specs.VersionForm.{kind_named};
 ghost use Rattle.gv_version.specs.VersionOrder.{rank};
 
@@ -47,18 +47,13 @@ pub(crate) enum Piece<'a> {
 fn kind_named(word: &[u8]) -> Option<Kind>
     ensures { result ≡ kind_named word.now }
 {
-    if word == b"alpha" {
-        Some(Kind::Alpha)
-    } else if word == b"beta" {
-        Some(Kind::Beta)
-    } else if word == b"pre" {
-        Some(Kind::Pre)
-    } else if word == b"rc" {
-        Some(Kind::Rc)
-    } else if word == b"p" {
-        Some(Kind::Patch)
-    } else {
-        None
+    match word {
+        b"alpha" => Some(Kind::Alpha),
+        b"beta" => Some(Kind::Beta),
+        b"pre" => Some(Kind::Pre),
+        b"rc" => Some(Kind::Rc),
+        b"p" => Some(Kind::Patch),
+        _ => None,
     }
 }
 
@@ -89,11 +84,8 @@ fn next_suffix(bytes: &[u8]) -> Option<(Piece<'_>, &[u8])>
     }
 }
 
-/// Takes the first piece off the bytes, None where there is none.
-pub(crate) fn next_piece(bytes: &[u8]) -> Option<(Piece<'_>, &[u8])>
-    ensures piece { option_map shown result ≡ next_piece bytes.now }
-    ensures digits { IfSome result (λ p. are_digits (shown p).0 ≡ true) }
-    ensures shorter { IfSome result (λ p. length p.1.now < length bytes.now) }
+fn read_piece(bytes: &[u8]) -> Option<(Piece<'_>, &[u8])>
+    ensures { option_map shown result ≡ next_piece bytes.now }
 {
     match bytes {
         [b'0'..=b'9', ..] => {
@@ -112,4 +104,13 @@ pub(crate) fn next_piece(bytes: &[u8]) -> Option<(Piece<'_>, &[u8])>
         }
         _ => None,
     }
+}
+
+/// Takes the first piece off the bytes, None where there is none.
+pub(crate) fn next_piece(bytes: &[u8]) -> Option<(Piece<'_>, &[u8])>
+    ensures piece { option_map shown result ≡ next_piece bytes.now }
+    ensures digits { IfSome result (λ p. are_digits (shown_piece p.0) ≡ true) }
+    ensures shorter { IfSome result (λ p. length p.1.now < length bytes.now) }
+{
+    read_piece(bytes)
 }
