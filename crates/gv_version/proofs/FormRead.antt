@@ -18,7 +18,7 @@ use Rattle.gv_version.proofs.FormLaw.{digits_of, form_says, says_form}
 abbrev accepts : State → List ℕ → Bool
 accepts s bytes = is_whole (run s bytes)
 
-run-append : (s : State) (xs ys : List ℕ) → run s (xs ++ ys) ≡ run (run s xs) ys
+pub run-append : (s : State) (xs ys : List ℕ) → run s (xs ++ ys) ≡ run (run s xs) ys
 run-append s [] ys = refl
 run-append s (x ∷ xs) ys = run-append (next s x) xs ys
 
@@ -244,7 +244,7 @@ nothing_stays : (bytes : List ℕ) → run Nothing bytes ≡ Nothing
 nothing_stays [] = refl
 nothing_stays (b ∷ bs) = nothing_stays bs
 
-nothing_read : (bytes : List ℕ) → accepts Nothing bytes ≡ true → ⊥
+pub nothing_read : (bytes : List ℕ) → accepts Nothing bytes ≡ true → ⊥
 nothing_read bytes h = false≢true (sym (ap is_whole (nothing_stays bytes)) ∙ h)
 
 only_read : (wanted : ℕ) (s : State) (b : ℕ) (bs : List ℕ) → accepts (only wanted s b) bs ≡ true → (b ≡ wanted) × (accepts s bs ≡ true)

@@ -38,7 +38,7 @@ at_least : (m : ℕ) (ys : List ℕ) → m ≤ number_behind m ys
 at_least m [] = omega arith
 at_least m (y ∷ ys) = let more = at_least (10 * m + (y - 48)) ys in omega (arith, more)
 
-digit_within : (d : ℕ) → is_digit d ≡ true → (48 ≤ d) × (d ≤ 57)
+pub digit_within : (d : ℕ) → is_digit d ≡ true → (48 ≤ d) × (d ≤ 57)
 digit_within d h = grind arith
 
 grows : (n m : ℕ) (xs ys : List ℕ) → n < m → length xs ≤ length ys → list_all is_digit xs ≡ true → number_behind n xs < number_behind m ys
@@ -95,7 +95,7 @@ bared (d ∷ ds) h = by (is_zero d) refl (bared ds (and_parts (is_digit d) (list
         rw (behind_yes is_zero d ds e) (record { number = zero_digit ∙ later.number; good = later.good; first = later.first })
     by false e later = rw (behind_no is_zero d ds e) (record { number = refl; good = h; first = e })
 
-shorter : (x y : List ℕ) → length x < length y → list_all is_digit x ≡ true → list_all is_digit y ≡ true → begins_with is_zero y ≡ false → number_of x < number_of y
+pub shorter : (x y : List ℕ) → length x < length y → list_all is_digit x ≡ true → list_all is_digit y ≡ true → begins_with is_zero y ≡ false → number_of x < number_of y
 shorter x [] lt hx hy first = absurd (omega arith)
 shorter x (y ∷ ys) lt hx hy first =
     let both = and_parts (is_digit y) (list_all is_digit ys) hy in
