@@ -161,8 +161,8 @@ pub(crate) fn longest_form(bytes: &[u8]) -> usize
     longest
 }
 
-#[tactic(auto, using(crate::proofs::FormRead::form_whole))]
 /// Whether the bytes have the form of a version, whatever the length of their runs of digits.
+#[tactic(auto, using(crate::proofs::FormRead::form_whole))]
 pub(crate) fn has_form(bytes: &[u8]) -> bool
     ensures { result ≡ has_form bytes.now }
 {
@@ -172,8 +172,8 @@ pub(crate) fn has_form(bytes: &[u8]) -> bool
     }
 }
 
-#[tactic(auto, using(crate::proofs::LongRuns::long_here))]
 /// The place of the first run of more than 18 digits.
+#[tactic(auto, using(crate::proofs::LongRuns::long_here))]
 pub(crate) fn long_run(bytes: &[u8]) -> Option<usize>
     ensures { result ≡ long_run bytes.now }
 {
