@@ -6,7 +6,7 @@ use Rattle.gv_logic.specs.Literals.{opposite}
 use Rattle.gv_logic.specs.Formulas.{Formula, IsFormula, InRange}
 use Rattle.gv_logic.specs.Partial.{is_true, IsUnit, IsProper}
 use Rattle.gv_trail.specs.Entries.{Entry, State, assignment, made_true, front_to, AreLevels, level_after}
-use Rattle.gv_trail.specs.Derived.{IsReason, HasReason, IsNext, IsDerived, IsTrail, front}
+use Rattle.gv_trail.specs.Derived.{HasReason, IsNext, IsDerived, IsTrail, front}
 use Rattle.gv_trail.specs.Told.{IsForced, AreForced, Propagates}
 use Rattle.gv_trail.proofs.Proper.{proper_set, proper_none}
 use Rattle.gv_trail.proofs.Marks.{made_true-append, made_true-cat, long}

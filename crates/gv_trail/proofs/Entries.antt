@@ -1,9 +1,8 @@
 -- Entries kept as literals and causes by variable.
-use Rattle.std.proofs.Common.{◌≡◌, ◌⊎◌, inl, inr, ℕ, suc, ◌+◌, ◌*◌, ◌/◌, ◌<◌, Bool, true, false, cond, nat_eq, Option, Some, None, List, [], ◌∷◌, ◌++◌, map, length, take, get_or, refl, sym, ap, subst, ◌∙◌, arith}
+use Rattle.std.proofs.Common.{◌≡◌, ◌⊎◌, inl, inr, ℕ, ◌+◌, ◌/◌, ◌<◌, Bool, true, false, cond, nat_eq, Some, None, List, [], ◌∷◌, ◌++◌, length, take, get_or, refl, sym, ap, subst, ◌∙◌, arith}
 use Rattle.std.specs.Prelude.{slice_set, replicate}
 use Rattle.std.specs.List.{AllByRecursion}
-use Rattle.std.proofs.Math.ListN.{length-set}
-use Rattle.std.proofs.lemmas.List.{get_or-set_same, get_or-set_other, map-append, length-map, map_more}
+use Rattle.std.proofs.lemmas.List.{get_or-set_same, get_or-set_other, map-append, map_more}
 use Rattle.std.proofs.lemmas.Grind.{common_steps}
 use Rattle.gv_logic.specs.Literals.{opposite}
 use Rattle.gv_logic.specs.Partial.{is_true, Has}
@@ -12,7 +11,6 @@ use Rattle.gv_trail.specs.Causes.{cause_at, entry_of, entries_of}
 use Rattle.gv_trail.specs.Entries.{Entry, made_true, lits_of, reason_of, level_of, value_of}
 use Rattle.gv_trail.specs.Marks.{AreFresh}
 use Rattle.gv_trail.proofs.Proper.{same_variable, set_is, set_keeps, set_here, no_, none_true, same_half}
-use Rattle.gv_trail.proofs.Marks.{length-made_true}
 
 pub lits_are : (causes : List Cause) (lits : List ℕ) → lits ≡ lits_of (entries_of causes lits)
 lits_are causes [] = refl

@@ -1,11 +1,11 @@
 -- Marks of the literals that are true.
-use Rattle.std.proofs.Common.{◌≡◌, ℕ, zero, suc, ◌+◌, ◌*◌, ◌<◌, ◌≤◌, Bool, true, false, List, [], ◌∷◌, ◌++◌, length, get_or, refl, sym, ap, ◌∙◌, cond, nat_le, arith}
+use Rattle.std.proofs.Common.{◌≡◌, ℕ, zero, suc, ◌+◌, ◌<◌, ◌≤◌, Bool, true, false, List, [], ◌∷◌, ◌++◌, length, get_or, refl, ap, ◌∙◌, cond, nat_le, arith}
 use Rattle.std.proofs.lemmas.List.{length-replicate}
 use Rattle.std.specs.Prelude.{slice_set, replicate}
 use Rattle.std.proofs.Math.ListN.{length-set}
 use Rattle.gv_logic.specs.Literals.{opposite}
 use Rattle.gv_logic.specs.Partial.{is_true}
-use Rattle.gv_trail.specs.Entries.{Entry, State, assignment, made_true, front_to}
+use Rattle.gv_trail.specs.Entries.{Entry, made_true, front_to}
 use Rattle.gv_trail.specs.Marks.{trues, AreFresh}
 use Rattle.gv_trail.proofs.Proper.{set_back}
 

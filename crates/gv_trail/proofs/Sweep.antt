@@ -1,11 +1,10 @@
 -- A pass over the clauses, and passes in a row.
-use Rattle.std.proofs.Common.{◌≡◌, ℕ, zero, suc, ◌+◌, ◌-◌, ◌*◌, ◌<◌, ◌≤◌, Bool, true, false, Some, None, List, [], ◌∷◌, ◌++◌, length, drop, get_or, refl, sym, ap, subst, ◌∙◌, add-one, drop-cons, length-append, arith}
+use Rattle.std.proofs.Common.{◌≡◌, ℕ, zero, suc, ◌+◌, ◌*◌, ◌<◌, ◌≤◌, Bool, true, false, Some, None, List, [], ◌∷◌, ◌++◌, length, drop, get_or, refl, ap, ◌∙◌, add-one, drop-cons, length-append, arith}
 use Rattle.std.specs.Prelude.{slice_get, slice_set, replicate}
-use Rattle.gv_logic.specs.Literals.{opposite}
-use Rattle.gv_logic.specs.Formulas.{Formula, IsFormula}
-use Rattle.gv_logic.specs.Partial.{is_true, all_false, AllQuiet, IsProper, IsUnit}
+use Rattle.gv_logic.specs.Formulas.{Formula}
+use Rattle.gv_logic.specs.Partial.{AllQuiet, IsProper}
 use Rattle.gv_trail.specs.declared.look.Look.TheVariants.{Quiet, AllFalse, OneLeft}
-use Rattle.gv_trail.specs.Entries.{Entry, State, assignment, made_true}
+use Rattle.gv_trail.specs.Entries.{Entry, State, assignment}
 use Rattle.gv_trail.specs.Derived.{IsDerived, IsTrail}
 use Rattle.gv_trail.specs.Marks.{AreFresh}
 use Rattle.gv_trail.specs.Told.{Propagates, IsFalseAt}

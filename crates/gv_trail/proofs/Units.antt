@@ -7,7 +7,6 @@ use Rattle.gv_logic.specs.Literals.{opposite}
 use Rattle.gv_logic.specs.Formulas.{InRange}
 use Rattle.gv_logic.specs.Partial as partial
 use Rattle.gv_logic.specs.Partial.{is_true, all_false, unit_after, is_other, AllQuiet, Has, IsUnit, IsProper}
-use Rattle.gv_trail.specs.declared.look.Look.{Look}
 use Rattle.gv_trail.specs.declared.look.Look.TheVariants.{Quiet, AllFalse, OneLeft}
 use Rattle.gv_trail.specs.Entries.{Entry, made_true}
 use Rattle.gv_trail.specs.Marks.{AreFresh}

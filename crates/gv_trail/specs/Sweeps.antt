@@ -1,5 +1,5 @@
 -- What one pass over the clauses does.
-use Rattle.std.specs.Prelude.{◌≡◌, ℕ, ◌<◌, Bool, List, length}
+use Rattle.std.specs.Prelude.{◌≡◌, ℕ, ◌<◌, List, length}
 use Rattle.gv_logic.specs.Partial.{AllQuiet}
 use Rattle.gv_trail.specs.declared.propagation.Sweep.{Sweep}
 use Rattle.gv_trail.specs.declared.propagation.Sweep.TheVariants.{Nothing, Falsified, Assigned}

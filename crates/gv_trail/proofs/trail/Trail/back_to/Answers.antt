@@ -1,6 +1,6 @@
-use Rattle.std.proofs.Common.{◌≡◌, ◌≤◌, ◌∙◌, ◌*◌, length, take, replicate, false, refl, arith}
+use Rattle.std.proofs.Common.{◌≡◌, ◌≤◌, ◌*◌, length, take, replicate, false, refl, arith}
 use Rattle.gv_trail.specs.Causes.{entries_of}
-use Rattle.gv_trail.specs.Entries.{State, made_true, front_to}
+use Rattle.gv_trail.specs.Entries.{made_true, front_to}
 use Rattle.gv_trail.proofs.Derive.{trail_back}
 use Rattle.gv_trail.proofs.Levels.{levels-front}
 use Rattle.gv_trail.proofs.Marks.{fresh-front}

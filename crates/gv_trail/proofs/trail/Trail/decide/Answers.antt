@@ -1,4 +1,3 @@
-use Rattle.std.proofs.Common.{◌+◌, ◌∙◌}
 use Rattle.gv_trail.specs.Entries.{assignment}
 use Rattle.gv_trail.proofs.Derive.{trail_decides}
 use Rattle.gv_trail.proofs.Entries.{value_none}

@@ -1,4 +1,4 @@
-use Rattle.std.proofs.Common.{◌≡◌, ◌∙◌, ◌*◌, Some, None, Option, ℕ, length, ap, sym}
+use Rattle.std.proofs.Common.{◌≡◌, ◌∙◌, ◌*◌, Some, None, length, ap, sym}
 use Rattle.gv_trail.specs.Entries.{State, assignment, level_of, value_of}
 use Rattle.gv_trail.specs.declared.cause.Cause.{Cause}
 use Rattle.gv_trail.proofs.Entries.{level_is, level_not}

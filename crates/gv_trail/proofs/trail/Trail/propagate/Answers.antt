@@ -1,5 +1,4 @@
-use Rattle.std.proofs.Common.{◌≡◌, ◌∙◌, ◌*◌, ◌≤◌, length, arith}
-use Rattle.gv_trail.specs.Derived.{IsTrail}
+use Rattle.std.proofs.Common.{arith}
 use Rattle.gv_trail.specs.Told.{Propagates}
 use Rattle.gv_trail.proofs.Derive.{propagates_refl, propagates_more, trail_propagates}
 use Rattle.gv_trail.proofs.Sweep.{trail_few}

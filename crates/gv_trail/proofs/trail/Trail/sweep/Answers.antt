@@ -1,7 +1,6 @@
-use Rattle.std.proofs.Common.{◌≡◌, ◌∙◌, ◌*◌, None, [], refl, sym, ap, subst, true, replicate, false, length, get_or}
+use Rattle.std.proofs.Common.{◌≡◌, ◌∙◌, ◌*◌, None, [], refl, sym, ap, true, replicate, false, length, get_or}
 use Rattle.std.proofs.lemmas.List.{get_or_default}
-use Rattle.gv_logic.specs.Literals.{opposite}
-use Rattle.gv_logic.specs.Partial.{is_true, IsProper, IsUnit}
+use Rattle.gv_logic.specs.Partial.{IsProper}
 use Rattle.gv_trail.specs.Causes.{entries_of}
 use Rattle.gv_trail.specs.Entries.{State, assignment}
 use Rattle.gv_trail.specs.Looks.{look_after}
@@ -9,7 +8,7 @@ use Rattle.gv_trail.specs.declared.look.Look.TheVariants.{Quiet, AllFalse, OneLe
 use Rattle.gv_trail.proofs.Derive.{propagates_refl}
 use Rattle.gv_trail.proofs.Proper.{proper_none}
 use Rattle.gv_trail.proofs.Units.{fresh_proper, look_left, named_below}
-use Rattle.gv_trail.proofs.Sweep.{IsSwept, swept_quiet, swept_one, false_at, get_at}
+use Rattle.gv_trail.proofs.Sweep.{swept_quiet, swept_one, false_at, get_at}
 use Rattle.gv_trail.proofs.trail.Trail.sweep.Goals as goal
 use Rattle.gv_trail.proofs.trail.Trail.sweep.Goals.{in-Quiet, in-OneLeft}
 
