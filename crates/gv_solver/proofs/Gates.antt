@@ -55,7 +55,6 @@ off_member : (bits : List Bool) (set : List ℕ) (i : ℕ) → AreOff bits set �
 off_member bits [] i a h = absurd h
 off_member bits (x ∷ xs) i a h = elim h [ inl s ↦ rw (← s) a.0 | inr g ↦ off_member bits xs i a.1 g ]
 
-
 no_ : (b : Bool) → b ≡ true → b ≡ false → ⊥
 no_ b t f = cc
 

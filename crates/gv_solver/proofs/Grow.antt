@@ -41,8 +41,7 @@ pub puts_one : (old new : State) (i : ℕ) → 2 * i + 1 < 2 * old.variables →
     → Grows (i ∷ []) old new × (is_true (assignment new) (2 * i + 1) ≡ true)
 puts_one old new i lt v e over =
     let one : Entry = record { lit = 2 * i + 1; reason = None; level = old.level + 1 } in
-    let same : assignment new ≡ slice_set (assignment old) (2 * i + 1) true = made_of old new (one ∷ []) v e in
-    (
+    let same : assignment new ≡ slice_set (assignment old) (2 * i + 1) true = made_of old new (one ∷ []) v e in (
       record {
         variables = v;
         more = rw same (below_set (assignment old) (2 * i + 1));

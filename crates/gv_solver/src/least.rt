@@ -1,5 +1,5 @@
 //! The steps that prove bits least: for each input that is on, that it or a lower one that is off
-//! has to be on.
+//! has to be on. A probe for each input that is on.
 
 ghost use Rattle.std.specs.Prelude.{◌≡◌, ◌<◌, ◌≤◌, ◌^◌, IfOk, OnOk, length};
 ghost use Rattle.gv_logic.specs.Logs.{offs, least_set};

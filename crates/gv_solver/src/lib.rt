@@ -20,6 +20,8 @@ mod search;
 mod sets;
 mod solver;
 mod steps;
+#[cfg(test)]
+mod tests;
 
 pub use answer::Answer;
 pub use sets::{FlagSet, FlagSets};

@@ -1,4 +1,4 @@
-//! Marks by literal.
+//! Marks by literal: O(variables) to make, O(1) to set and read.
 
 ghost use Rattle.std.specs.Prelude.{◌≡◌, ◌*◌, ◌<◌, ◌^◌, true, false, IfOk, replicate, slice_set};
 ghost use Rattle.std.specs.List.{AllByRecursion};

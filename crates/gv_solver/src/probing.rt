@@ -1,4 +1,6 @@
-//! Propagation from level 0 with the inputs of a set off: whether the set is open or clashes.
+//! Propagation from level 0 with the inputs of a set off: whether the set is open or clashes. A
+//! probe is two propagations, of which the first finds what level 0 asks for; dropping probes once
+//! for each member.
 
 ghost use Rattle.std.specs.Prelude.{◌≡◌, ◌+◌, ◌*◌, ◌<◌, ◌≤◌, ◌^◌, ◌∷◌, [], ℕ, true, false, IfOk, OnOk, length};
 ghost use Rattle.std.specs.List.{AllByRecursion};

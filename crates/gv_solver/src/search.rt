@@ -1,4 +1,5 @@
-//! The way down: the least undecided input is decided off after each complete propagation.
+//! The way down: the least undecided input is decided off after each complete propagation, and so
+//! one propagation for each decision.
 
 ghost use Rattle.std.specs.Prelude.{◌+◌, ◌<◌};
 ghost use Rattle.gv_logic.specs.Partial.{AllQuiet};

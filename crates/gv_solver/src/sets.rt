@@ -6,7 +6,7 @@ use gv_base::NoMemory;
 use std::alloc::Global;
 use std::marker::Model;
 
-/// A set of inputs: their numbers, in rising order.
+/// A set of inputs, by their numbers. The solver hands them out in rising order.
 #[derive(Drop)]
 pub struct FlagSet {
     items: Vec<u32>,

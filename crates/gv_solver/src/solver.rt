@@ -18,12 +18,7 @@ use std::alloc::Global;
 
 // The least bits of the inputs under which no clause is false or unit, a refutation, or as many
 // kept sets as the budget allows.
-fn search(
-    alloc: Global,
-    clauses: &Clauses,
-    inputs: u32,
-    budget: u32,
-) -> Result<Answer, NoMemory>
+fn search(alloc: Global, clauses: &Clauses, inputs: u32, budget: u32) -> Result<Answer, NoMemory>
     requires few { clauses.now.variables ≤ 2 ^ 30 }
     requires inputs { inputs ≤ clauses.now.variables }
     ensures { IfOk result (IsAnswer clauses.now inputs budget) }

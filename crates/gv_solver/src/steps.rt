@@ -1,4 +1,4 @@
-//! The step of a set that clashes: its clause, and the trail's reasons as hints.
+//! The step of a set that clashes: its clause, and the trail's reasons as hints. O(variables).
 
 ghost use Rattle.std.specs.Prelude.{◌≡◌, ◌*◌, ◌<◌, ◌≤◌, ◌^◌, ℕ, List, true, IfOk};
 ghost use Rattle.std.specs.List.{AllByRecursion};
@@ -29,12 +29,7 @@ pub(crate) fn clause_of(alloc: Global, set: &[u32]) -> Result<Clause, NoMemory>
 }
 
 // The hints by which a clause follows, from the partial assignment that makes it false.
-fn replayed(
-    alloc: Global,
-    trail: &Trail,
-    on: &mut Vec<bool>,
-    last: u32,
-) -> Result<Hints, NoMemory>
+fn replayed(alloc: Global, trail: &Trail, on: &mut Vec<bool>, last: u32) -> Result<Hints, NoMemory>
     ensures { IfOk result (λ hints. hints ≡ replay_by (reasons trail.now) on.old.items (lits_of trail.now.entries) last) }
 {
     let mut hints = Hints::new(alloc);
@@ -55,7 +50,6 @@ fn replayed(
 }
 
 /// The step of a set that clashes as the trail shows, `last` being the clause that is false.
-#[tactic(auto, using(crate::proofs::Starts::clash_follows))]
 pub(crate) fn step_of(
     alloc: Global,
     trail: &Trail,
