@@ -1,19 +1,18 @@
 -- Reading byte by byte finds the form: `has_form` is true exactly where the state behind the last byte is whole.
-use Rattle.std.proofs.Common.{◌≡◌, ℕ, suc, zero, ◌+◌, ◌<◌, ◌≤◌, Bool, true, false, ◌&&◌, List, [], ◌∷◌, ◌++◌, length, take, drop, get_or, refl, ap, sym, ◌∙◌, append-nil, append_assoc, arith, Option, Some, None, if◌then◌else◌, ◌⊎◌, inl, inr, add-one}
+use Rattle.std.proofs.Common.{◌≡◌, ℕ, suc, zero, ◌+◌, ◌<◌, ◌≤◌, Bool, true, false, ◌&&◌, List, [], ◌∷◌, ◌++◌, length, take, drop, get_or, refl, ap, sym, ◌∙◌, append_assoc, arith, Option, Some, None, if◌then◌else◌, ◌⊎◌, inl, inr, add-one}
 use Rattle.std.proofs.lemmas.Bool.{and_parts, and_from, false≢true, eqb-true, eq-eqb, ne_eqb, cases_lt}
 use Rattle.std.proofs.lemmas.List.{take_more, take-take, take-append-drop, take_all}
 use Rattle.std.specs.Prelude.{◌==◌, flat_map, option_to_list, codes}
 use Rattle.std.specs.Option.{option_map_or}
 use Rattle.std.specs.List.{list_all, join_with_byte}
-use Rattle.std.specs.Str.{byte}
 use Rattle.gv_version.specs.Bytes.{is_digit, is_small}
 use Rattle.gv_version.specs.FormReading.{only, digit_only, after_part, after_number, after_underscore, after_suffix, next, is_whole, run}
 use Rattle.gv_version.specs.declared.pieces.Kind.{Kind}
 use Rattle.gv_version.specs.declared.pieces.Kind.TheVariants.{Alpha, Beta, Pre, Rc, Patch}
-use Rattle.gv_version.specs.VersionForm.{kind_text, Parts, suffix_text, revision_text, version_text, is_number, are_numbers, are_parts, HasForm, has_form, longest_form_within, longest_form}
+use Rattle.gv_version.specs.VersionForm.{kind_text, Parts, suffix_text, revision_text, version_text, is_number, are_parts, HasForm, has_form, longest_form_within, longest_form}
 use Rattle.gv_version.specs.declared.form.State.{State}
 use Rattle.gv_version.specs.declared.form.State.TheVariants.{Start, Number, Dot, Letter, Underscore, A, Al, Alp, Alph, B, Be, Bet, P, Pr, R, Suffix, SuffixNumber, Hyphen, HyphenR, Revision, Nothing}
-use Rattle.gv_version.proofs.FormLaw.{digits_of, form_says, says_form}
+use Rattle.gv_version.proofs.FormLaw.{form_says, says_form}
 
 abbrev accepts : State → List ℕ → Bool
 accepts s bytes = is_whole (run s bytes)
