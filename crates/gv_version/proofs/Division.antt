@@ -12,7 +12,8 @@ use Rattle.gv_version.specs.VersionForm.{has_form, long_run}
 use Rattle.gv_version.specs.declared.form.State.{State}
 use Rattle.gv_version.specs.declared.form.State.TheVariants.{Start, Number, Dot, Letter, Underscore, A, Al, Alp, Alph, B, Be, Bet, P, Pr, R, Suffix, SuffixNumber, Hyphen, HyphenR, Revision, Nothing}
 use Rattle.gv_version.proofs.FormLaw.{form_says, says_form}
-use Rattle.gv_version.proofs.FormRead.{form_is, run-append, nothing_read}
+use Rattle.gv_version.proofs.StatesOfParts.{run-append}
+use Rattle.gv_version.proofs.PartsOfStates.{form_is, nothing_read}
 
 -- Behind a hyphen in a version stands `r`, and a version begins with a digit.
 no_version : (bytes : List ℕ) → is_whole (run Hyphen bytes) ≡ true → has_form bytes ≡ true → ⊥

@@ -10,7 +10,7 @@ use Rattle.gv_version.specs.VersionPieces.{Piece, first, later, letter, suffix, 
 use Rattle.gv_version.specs.PieceReading.{next_suffix, next_revision, next_piece, pieces_in}
 use Rattle.gv_version.specs.declared.pieces.Kind.{Kind}
 use Rattle.gv_version.proofs.FormLaw.{front_ends, behind_ends, digits_of, digits_stop, kind_small, named_kind, form_says, read_parts}
-use Rattle.gv_version.proofs.FormRead.{small_no_digit, small_no_dot}
+use Rattle.gv_version.proofs.StatesOfParts.{small_no_digit, small_no_dot}
 use Rattle.gv_version.proofs.PieceLaw.{pieces_more}
 
 abbrev pub suffix_piece : Kind × List ℕ → Piece
