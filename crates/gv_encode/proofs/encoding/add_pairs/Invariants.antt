@@ -1,0 +1,5 @@
+use Rattle.std.proofs.Common.{◌≡◌, ◌++◌, ◌∷◌, [], take, map}
+use Rattle.gv_encode.proofs.encoding.add_pairs.Given as goal
+
+abbrev pub invariant-loop-lit : goal.invariant-loop-lit
+invariant-loop-lit l = l.clauses ≡ record l.initial.clauses { clauses = l.initial.clauses.clauses ++ map (λ x. l.first ∷ x ∷ []) (take l.lit-index l.lits) }

@@ -1,0 +1,11 @@
+pub mod Backed
+pub mod Bytes
+pub mod Circuits
+pub mod Encoding
+pub mod Formulas
+pub mod Kept
+pub mod Least
+pub mod Literals
+pub mod Logs
+pub mod Partial
+pub mod Reading
