@@ -1,14 +1,13 @@
 -- The clauses of gates force the values.
-use Rattle.std.proofs.Common.{◌≡◌, ℕ, zero, suc, ◌+◌, ◌*◌, ◌<◌, ◌≤◌, Bool, true, false, not, ◌||◌, ◌&&◌, List, [], ◌∷◌, ◌++◌, map, take, length, get_or, refl, sym, subst, ap, ◌∙◌, length-append, arith}
+use Rattle.std.proofs.Common.{◌≡◌, ℕ, zero, suc, ◌+◌, ◌*◌, ◌<◌, ◌≤◌, Bool, true, false, not, ◌||◌, List, [], ◌∷◌, ◌++◌, map, take, length, get_or, refl, sym, subst, ap, ◌∙◌, length-append, arith}
 use Rattle.std.proofs.lemmas.List.{take_more, length-take-le}
-use Rattle.std.specs.List.{AllByRecursion}
 use Rattle.gv_logic.specs.declared.gates.Op.{Op}
 use Rattle.gv_logic.specs.declared.gates.Op.TheVariants.{And, Or}
 use Rattle.gv_logic.specs.Literals.{opposite, lit_true, clause_true, AllTrue}
-use Rattle.gv_logic.specs.Circuits.{Gate, Circuit, at, all_lits_true, op_value, gate_value, values_from, values, value, AreEarlier, IsCircuit}
-use Rattle.gv_logic.specs.Encoding.{op_clauses, gate_clauses, clauses_from, all_clauses}
+use Rattle.gv_logic.specs.Circuits.{Gate, Circuit, at, all_lits_true, op_value, gate_value, values_from, values, AreEarlier, IsCircuit}
+use Rattle.gv_logic.specs.Encoding.{op_clauses, gate_clauses, clauses_from}
 use Rattle.gv_encode.specs.Extends.{Extends}
-use Rattle.gv_encode.proofs.Truth.{lit_opposite, even_lit, odd_lit, opposites_true, get_end}
+use Rattle.gv_encode.proofs.Truth.{lit_opposite, even_lit, odd_lit, opposites_true}
 use Rattle.gv_encode.proofs.Values.{value_stable}
 
 pub left_true : (v : ℕ → Bool) (a b : List (List ℕ)) → AllTrue v (a ++ b) → AllTrue v a

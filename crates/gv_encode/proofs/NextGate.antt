@@ -1,5 +1,5 @@
 -- The next gate of a loop over gates.
-use Rattle.std.proofs.Common.{◌≡◌, ℕ, zero, suc, ◌+◌, ◌*◌, ◌<◌, ◌≤◌, List, [], ◌∷◌, ◌++◌, length, get_or, drop, refl, sym, subst, ◌∙◌, ap, append_assoc, add-one, drop-cons, arith}
+use Rattle.std.proofs.Common.{◌≡◌, ℕ, zero, suc, ◌+◌, ◌*◌, ◌<◌, List, [], ◌∷◌, ◌++◌, length, get_or, drop, refl, subst, ◌∙◌, ap, append_assoc, add-one, drop-cons, arith}
 use Rattle.std.specs.List.{AllByRecursion}
 use Rattle.gv_logic.specs.declared.gates.Op.{Op}
 use Rattle.gv_logic.specs.Formulas.{Formula}

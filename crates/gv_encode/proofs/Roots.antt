@@ -1,5 +1,5 @@
 -- Bits that give the root true, and assignments that make all clauses true.
-use Rattle.std.proofs.Common.{◌≡◌, ◌↔◌, ℕ, Bool, true, false, ◌||◌, List, [], ◌∷◌, ◌++◌, length, subst, sym, refl, ap, ◌∙◌}
+use Rattle.std.proofs.Common.{◌≡◌, ◌↔◌, Bool, true, false, ◌||◌, List, [], ◌∷◌, length, subst, refl}
 use Rattle.gv_logic.specs.Literals.{lit_true, AllTrue}
 use Rattle.gv_logic.specs.Circuits.{Circuit, IsCircuit, at, values, value}
 use Rattle.gv_logic.specs.Encoding.{clauses_from, all_clauses}

@@ -1,11 +1,11 @@
 -- The gates' values make the clauses true.
-use Rattle.std.proofs.Common.{◌≡◌, ℕ, ◌+◌, ◌*◌, ◌/◌, ◌%◌, ◌<◌, Bool, true, false, cond, not, ◌||◌, ◌&&◌, List, [], ◌∷◌, ◌++◌, map, take, length, get_or, refl, sym, subst, ap, ◌∙◌, length-append, append_assoc, append-nil, arith}
+use Rattle.std.proofs.Common.{◌≡◌, ℕ, ◌+◌, ◌*◌, ◌/◌, ◌<◌, Bool, true, false, not, ◌||◌, ◌&&◌, List, [], ◌∷◌, ◌++◌, map, take, length, refl, sym, subst, ap, ◌∙◌, length-append, append_assoc, append-nil, arith}
 use Rattle.std.specs.List.{AllByRecursion}
 use Rattle.gv_logic.specs.declared.gates.Op.{Op}
 use Rattle.gv_logic.specs.declared.gates.Op.TheVariants.{And, Or}
 use Rattle.gv_logic.specs.Literals.{opposite, lit_true, clause_true, AllTrue}
-use Rattle.gv_logic.specs.Circuits.{Gate, Circuit, at, all_lits_true, op_value, gate_value, values_from, values, value, AreEarlier, IsCircuit}
-use Rattle.gv_logic.specs.Encoding.{op_clauses, gate_clauses, clauses_from, all_clauses}
+use Rattle.gv_logic.specs.Circuits.{Gate, Circuit, at, all_lits_true, op_value, gate_value, values_from, values, AreEarlier, IsCircuit}
+use Rattle.gv_logic.specs.Encoding.{op_clauses, gate_clauses, clauses_from}
 use Rattle.gv_encode.specs.Extends.{Extends}
 use Rattle.gv_encode.proofs.Truth.{lit_opposite, even_lit, odd_lit, opposites_true, get_front, get_end}
 

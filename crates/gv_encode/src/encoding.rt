@@ -21,16 +21,12 @@ fn opposites(alloc: Global, lits: &[Lit]) -> Result<Lits, NoMemory>
 }
 
 // For each literal the clause of `first` and it.
-fn add_pairs(
-    alloc: Global,
-    clauses: &mut Clauses,
-    first: Lit,
-    lits: &[Lit],
-) -> Result<(), NoMemory>
+fn add_pairs(alloc: Global, clauses: &mut Clauses, first: Lit, lits: &[Lit]) -> Result<(), NoMemory>
     requires first { first < 2 * clauses.old.variables }
     requires named { AllByRecursion (λ l. l < 2 * clauses.old.variables) lits.now }
     ensures { OnOk result (clauses.new ≡ record clauses.old {
-        clauses = clauses.old.clauses ++ map (λ l. first ∷ l ∷ []) lits.now }) }
+      clauses = clauses.old.clauses ++ map (λ l. first ∷ l ∷ []) lits.now;
+    }) }
 {
     for lit in lits {
         let pair = Clause::of(alloc, &[first, *lit])?;
@@ -40,16 +36,12 @@ fn add_pairs(
 }
 
 // The clause of `first` and all the literals.
-fn add_whole(
-    alloc: Global,
-    clauses: &mut Clauses,
-    first: Lit,
-    lits: &[Lit],
-) -> Result<(), NoMemory>
+fn add_whole(alloc: Global, clauses: &mut Clauses, first: Lit, lits: &[Lit]) -> Result<(), NoMemory>
     requires first { first < 2 * clauses.old.variables }
     requires named { AllByRecursion (λ l. l < 2 * clauses.old.variables) lits.now }
     ensures { OnOk result (clauses.new ≡ record clauses.old {
-        clauses = clauses.old.clauses ++ (first ∷ lits.now) ∷ [] }) }
+      clauses = clauses.old.clauses ++ (first ∷ lits.now) ∷ [];
+    }) }
 {
     let mut whole = Clause::of(alloc, &[first])?;
     for lit in lits {
@@ -69,7 +61,8 @@ fn add_and(
     requires place { place < clauses.old.variables }
     requires earlier { AllByRecursion (λ l. l < 2 * place) operands.now }
     ensures { OnOk result (clauses.new ≡ record clauses.old {
-        clauses = clauses.old.clauses ++ op_clauses place And operands.now }) }
+      clauses = clauses.old.clauses ++ op_clauses place And operands.now;
+    }) }
 {
     let on = Lit(2 * place);
     let off = Lit(2 * place + 1);
@@ -89,7 +82,8 @@ fn add_or(
     requires place { place < clauses.old.variables }
     requires earlier { AllByRecursion (λ l. l < 2 * place) operands.now }
     ensures { OnOk result (clauses.new ≡ record clauses.old {
-        clauses = clauses.old.clauses ++ op_clauses place Or operands.now }) }
+      clauses = clauses.old.clauses ++ op_clauses place Or operands.now;
+    }) }
 {
     let on = Lit(2 * place);
     let off = Lit(2 * place + 1);
@@ -109,7 +103,8 @@ fn add_gate(
     requires place { place < clauses.old.variables }
     requires earlier { AllByRecursion (λ l. l < 2 * place) operands.now }
     ensures { OnOk result (clauses.new ≡ record clauses.old {
-        clauses = clauses.old.clauses ++ op_clauses place op operands.now }) }
+      clauses = clauses.old.clauses ++ op_clauses place op operands.now;
+    }) }
 {
     match op {
         Op::And => add_and(alloc, clauses, place, operands),
@@ -127,7 +122,13 @@ pub fn encode(alloc: Global, gates: &Gates) -> Result<Clauses, NoMemory>
     let inputs = gates.inputs();
     let mut clauses = Clauses::new(alloc, inputs + gates.count());
     for n in 0..gates.count() {
-        add_gate(alloc, &mut clauses, inputs + n, gates.op(n), gates.operands(n))?;
+        add_gate(
+            alloc,
+            &mut clauses,
+            inputs + n,
+            gates.op(n),
+            gates.operands(n),
+        )?;
     }
     let root = Clause::of(alloc, &[gates.root()])?;
     clauses.add(root)?;

@@ -7,6 +7,8 @@
 
 mod encoding;
 mod law;
+#[cfg(test)]
+mod tests;
 
 pub use encoding::encode;
 pub use law::encoding_law;

@@ -1,3 +1,4 @@
 pub mod Judged
 pub mod Notes
 pub mod Reached
+pub mod Rules

@@ -99,12 +99,7 @@ fn refuted(marks: &mut Marks, clauses: &[Clause], log: &[Step], i: usize, hints:
 }
 
 // The clause that a hint of step i names: one of the clauses, or that of an earlier step.
-fn named<'a>(
-    clauses: &'a [Clause],
-    log: &'a [Step],
-    i: usize,
-    hint: u32,
-) -> Option<&'a Clause>
+fn named<'a>(clauses: &'a [Clause], log: &'a [Step], i: usize, hint: u32) -> Option<&'a Clause>
     requires { i ≤ length log.now }
     ensures { slice_get (clauses.now ++ step_clauses (take i log.now)) hint ≡ option_map (λ c. c.now) result }
 {

@@ -11,8 +11,10 @@ mod checker;
 mod law;
 mod log;
 mod marks;
+#[cfg(test)]
+mod tests;
 
 pub use checker::{Verdict, check, proves_least, proves_none};
-pub use law::{least_bits_law, step_law};
+pub use law::{least_bits_law, rule_law, step_law};
 pub use log::{Hints, Log, Step};
 pub use marks::Marks;

@@ -1,18 +1,19 @@
 -- At most one hyphen divides a text into a name and a text of version form, and `split_pf` finds it.
-use Rattle.std.proofs.Common.{◌≡◌, ℕ, suc, ◌+◌, Bool, true, false, ◌&&◌, List, [], ◌∷◌, ◌++◌, length, take, drop, refl, ap, sym, ◌∙◌, if◌then◌else◌, Option, Some, None, append-nil, append_assoc}
+use Rattle.std.proofs.Common.{◌≡◌, ℕ, suc, ◌+◌, Bool, true, false, ◌&&◌, List, [], ◌∷◌, ◌++◌, length, drop, refl, ap, sym, ◌∙◌, if◌then◌else◌, Option, Some, None, append-nil, append_assoc}
 use Rattle.std.proofs.lemmas.Bool.{and_parts, and_from, false≢true, eqb-true}
 use Rattle.std.proofs.Math.Seq.{drop-append-add}
 use Rattle.std.specs.Prelude.{◌==◌, is_none, unwrap_or, option_and_then}
 use Rattle.std.specs.Bool.{then_some}
 use Rattle.std.specs.Str.{byte}
-use Rattle.gv_version.specs.FormReading.{next, only, is_whole, run}
+use Rattle.gv_version.specs.FormReading.{next, is_whole, run}
 use Rattle.gv_version.specs.Laws.{Divides, IsDivided}
 use Rattle.gv_version.specs.Names.{is_package, hyphen_from, split_pf}
-use Rattle.gv_version.specs.VersionForm.{HasForm, has_form, long_run, is_version}
+use Rattle.gv_version.specs.VersionForm.{has_form, long_run}
 use Rattle.gv_version.specs.declared.form.State.{State}
 use Rattle.gv_version.specs.declared.form.State.TheVariants.{Start, Number, Dot, Letter, Underscore, A, Al, Alp, Alph, B, Be, Bet, P, Pr, R, Suffix, SuffixNumber, Hyphen, HyphenR, Revision, Nothing}
 use Rattle.gv_version.proofs.FormLaw.{form_says, says_form}
-use Rattle.gv_version.proofs.FormRead.{form_is, run-append, nothing_read}
+use Rattle.gv_version.proofs.StatesOfParts.{run-append}
+use Rattle.gv_version.proofs.PartsOfStates.{form_is, nothing_read}
 
 -- Behind a hyphen in a version stands `r`, and a version begins with a digit.
 no_version : (bytes : List ℕ) → is_whole (run Hyphen bytes) ≡ true → has_form bytes ≡ true → ⊥

@@ -1,12 +1,10 @@
 -- The place of a run of more than 18 digits, run by run.
-use Rattle.std.proofs.Common.{◌≡◌, ℕ, suc, zero, ◌+◌, ◌<◌, ◌≤◌, Bool, true, false, List, [], ◌∷◌, length, drop, refl, ap, sym, ◌∙◌, arith, if◌then◌else◌, Option, Some, None}
-use Rattle.std.proofs.lemmas.Bool.{lt-ltb, le-ltb, false≢true}
-use Rattle.std.proofs.lemmas.List.{drop-drop, drop_all}
-use Rattle.std.proofs.lemmas.List.Sums.{prefix_len-le-length}
-use Rattle.std.specs.Prelude.{nat_lt}
+use Rattle.std.proofs.Common.{◌≡◌, ℕ, suc, ◌+◌, ◌<◌, ◌≤◌, Bool, true, false, List, [], ◌∷◌, length, drop, refl, ap, sym, ◌∙◌, arith, Some}
+use Rattle.std.proofs.lemmas.Bool.{lt-ltb, le-ltb}
+use Rattle.std.proofs.lemmas.List.{drop-drop}
 use Rattle.std.specs.List.{prefix_len}
 use Rattle.gv_version.specs.Bytes.{is_digit}
-use Rattle.gv_version.specs.VersionForm.{long_run, long_run_from}
+use Rattle.gv_version.specs.VersionForm.{long_run_from}
 
 one_on : (at : ℕ) (b : ℕ) (bs : List ℕ) → prefix_len is_digit (b ∷ bs) ≤ 18 → long_run_from at (b ∷ bs) ≡ long_run_from (at + 1) bs
 one_on at b bs le = rw (le-ltb 18 (prefix_len is_digit (b ∷ bs)) le) refl

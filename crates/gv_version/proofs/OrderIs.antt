@@ -1,22 +1,22 @@
 -- The version order is the order of keys: lists of numbers and texts that are compared one after another.
-use Rattle.std.proofs.Common.{◌≡◌, ℕ, suc, ◌+◌, ◌<◌, ◌≤◌, Bool, true, false, ◌&&◌, ◌||◌, not, List, [], ◌∷◌, ◌++◌, map, length, refl, ap, sym, ◌∙◌, arith, if◌then◌else◌, Option, Some, None}
+use Rattle.std.proofs.Common.{◌≡◌, ℕ, Bool, true, false, ◌&&◌, ◌||◌, List, [], ◌∷◌, map, refl, ap, sym, ◌∙◌, arith, if◌then◌else◌, Option, Some, None}
 use Rattle.std.proofs.lemmas.Bool.{and_parts, and_from, false≢true, eqb-true, eqb-false, eq-eqb}
 use Rattle.std.proofs.lemmas.Cmp.{nat_cmp_total, nat_list_cmp_total, lists_total, then_total, on_total, upto, tied_itself, eq_by_cmp_equiv}
-use Rattle.std.specs.Prelude.{◌==◌, option_to_list, option_map}
+use Rattle.std.specs.Prelude.{◌==◌, option_to_list}
 use Rattle.std.specs.Cmp.{IsTotalOrder, IsEquivalence}
 use Rattle.std.specs.Cmp.Lexicographic.{slice_cmp}
-use Rattle.std.specs.List.{list_all, slice_split, onto_first, prefix_len}
+use Rattle.std.specs.List.{list_all, slice_split, onto_first}
 use Rattle.std.specs.Ordering.{nat_cmp, ordering_then, ordering_reverse, is_eq, is_le, is_gt, on, then_cmp, eq_by_cmp}
 use Rattle.std.specs.declared.cmp.Ordering.{Ordering}
 use Rattle.std.specs.declared.cmp.Ordering.TheVariants.{Less, Equal, Greater}
 use Rattle.gv_version.specs.Bytes.{is_digit, begins_with, front}
 use Rattle.gv_version.specs.Laws.{IsOrder, IsSameness}
 use Rattle.gv_version.specs.VersionForm.{Parts, is_number_byte, parts_of}
-use Rattle.gv_version.specs.VersionOrder.{number_of, is_zero, stripped, rank, revision_number, cmp_later, cmp_laters, cmp_numbers, cmp_letters, cmp_suffix, cmp_fewer, cmp_more, cmp_suffixes, cmp_but_revision, cmp_parts, compare, same_but_revision}
-use Rattle.gv_version.specs.VersionPieces.{Piece, first, later, letter, suffix, revision, number_pieces, pieces_of, agrees, is_front, begins}
+use Rattle.gv_version.specs.VersionOrder.{number_of, is_zero, stripped, rank, revision_number, cmp_later, cmp_laters, cmp_numbers, cmp_letters, cmp_fewer, cmp_more, cmp_suffixes, cmp_but_revision, compare, same_but_revision}
+use Rattle.gv_version.specs.VersionPieces.{Piece, first, later, letter, suffix, revision, pieces_of, agrees, is_front, begins}
 use Rattle.gv_version.specs.declared.pieces.Kind.{Kind}
 use Rattle.gv_version.specs.declared.pieces.Kind.TheVariants.{Alpha, Beta, Pre, Rc, Patch}
-use Rattle.gv_version.proofs.Integers.{is_less, is_equal, is_greater, then_equal, then_then, digit_within, shorter}
+use Rattle.gv_version.proofs.Integers.{is_less, is_greater, then_equal, digit_within, shorter}
 use Rattle.gv_version.proofs.PieceLaw.{front_passes}
 
 -- A component behind the first: a text below all numbers where it begins with 0, else a number.

@@ -1,13 +1,13 @@
 -- Pieces are read from the front, one by one.
-use Rattle.std.proofs.Common.{◌≡◌, ℕ, suc, zero, ◌+◌, ◌<◌, ◌≤◌, Bool, true, false, ◌&&◌, List, [], ◌∷◌, ◌++◌, length, take, drop, refl, ap, sym, ◌∙◌, subst, arith, if◌then◌else◌, Option, Some, None, IfSome}
-use Rattle.std.proofs.lemmas.Bool.{and_parts, and_from, false≢true}
+use Rattle.std.proofs.Common.{◌≡◌, ℕ, suc, zero, ◌+◌, ◌<◌, ◌≤◌, Bool, true, false, List, [], ◌∷◌, length, take, refl, ap, sym, ◌∙◌, subst, arith, if◌then◌else◌, Option, Some, None, IfSome}
+use Rattle.std.proofs.lemmas.Bool.{and_from}
 use Rattle.std.proofs.lemmas.List.{length-drop}
 use Rattle.std.specs.Prelude.{◌==◌, option_map}
 use Rattle.std.specs.Borrow.{Bor}
 use Rattle.std.specs.List.{list_all, prefix_len}
 use Rattle.gv_version.specs.Bytes.{is_digit, is_small, front, behind}
 use Rattle.gv_version.specs.VersionForm.{kind_named}
-use Rattle.gv_version.specs.VersionPieces.{Piece, first, later, letter, suffix, revision, agrees, is_front}
+use Rattle.gv_version.specs.VersionPieces.{Piece, first, later, letter, suffix, agrees, is_front}
 use Rattle.gv_version.specs.PieceReading.{shown_piece, shown, are_digits, next_suffix, next_revision, next_piece, pieces_within, pieces_in, cmp_piece, cmp_pieces}
 use Rattle.std.specs.declared.cmp.Ordering.{Ordering}
 use Rattle.std.specs.declared.cmp.Ordering.TheVariants.{Equal}

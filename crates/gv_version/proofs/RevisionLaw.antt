@@ -1,14 +1,14 @@
 -- A version without its revision is the version of the other parts.
-use Rattle.std.proofs.Common.{◌≡◌, ℕ, Bool, true, false, ◌&&◌, List, [], ◌∷◌, ◌++◌, refl, ap, sym, ◌∙◌, append-nil, append_assoc, arith, Option, Some, None}
+use Rattle.std.proofs.Common.{◌≡◌, ℕ, Bool, true, ◌&&◌, List, [], ◌∷◌, ◌++◌, refl, ap, sym, ◌∙◌, append-nil, append_assoc, arith, Option, Some, None}
 use Rattle.std.proofs.lemmas.Bool.{and_parts, and_from}
 use Rattle.std.proofs.lemmas.List.Folds.{list_all-append}
-use Rattle.std.specs.Prelude.{◌==◌, flat_map, option_to_list}
+use Rattle.std.specs.Prelude.{flat_map, option_to_list}
 use Rattle.std.specs.Option.{option_map_or}
 use Rattle.std.specs.List.{list_all, join_with_byte}
 use Rattle.std.specs.Ordering.{is_eq}
 use Rattle.gv_version.specs.Bytes.{is_digit, is_small, front}
 use Rattle.gv_version.specs.VersionForm.{Parts, suffix_text, revision_text, version_text, is_number, are_numbers, are_parts, HasForm, has_form, is_version, is_number_byte, is_in_suffixes, parts_of}
-use Rattle.gv_version.specs.VersionOrder.{cmp_but_revision, cmp_parts, compare, same_but_revision}
+use Rattle.gv_version.specs.VersionOrder.{cmp_but_revision, cmp_parts, same_but_revision}
 use Rattle.gv_version.specs.PieceReading.{cmp_pieces, pieces_in}
 use Rattle.gv_version.proofs.FormLaw.{front_ends, revision_stops, suffixes_in, joined_bytes, form_says, says_form, read_parts}
 use Rattle.gv_version.proofs.Integers.{then_equal}

@@ -1,11 +1,11 @@
 -- What a reader may rely on of the order of versions, of their fronts and of the division of a PF; over all texts.
-use Rattle.std.specs.Prelude.{◌≡◌, ◌↔◌, ℕ, ◌+◌, Bool, true, ◌||◌, List, ◌∷◌, ◌++◌, length, drop, None, Some}
+use Rattle.std.specs.Prelude.{◌≡◌, ℕ, ◌+◌, Bool, true, ◌||◌, List, ◌∷◌, ◌++◌, length, drop, None, Some}
 use Rattle.std.specs.Str.{byte}
-use Rattle.std.specs.Ordering.{is_eq, is_le, ordering_reverse}
+use Rattle.std.specs.Ordering.{is_le, ordering_reverse}
 use Rattle.std.specs.declared.cmp.Ordering.{Ordering}
-use Rattle.std.specs.declared.cmp.Ordering.TheVariants.{Less, Equal, Greater}
+use Rattle.std.specs.declared.cmp.Ordering.TheVariants.{Equal}
 use Rattle.gv_version.specs.Names.{is_package, split_pf}
-use Rattle.gv_version.specs.VersionForm.{HasForm, has_form, is_version, long_run}
+use Rattle.gv_version.specs.VersionForm.{HasForm, is_version, long_run}
 
 -- a total order up to versions that it calls equal, which are alike against every third
 pub record IsOrder (order : List ℕ → List ℕ → Ordering) : Type 0 where

@@ -1,15 +1,15 @@
 -- How the program reads versions piece by piece, for the contracts of private functions. In a version the
 -- pieces that are read are those of its parts, and comparing them in turn comes to comparing part by part.
-use Rattle.std.specs.Prelude.{ℕ, zero, suc, ◌==◌, nat_lt, Bool, true, false, if◌then◌else◌, List, [], ◌∷◌, length, drop, Option, None, Some, option_map}
+use Rattle.std.specs.Prelude.{ℕ, zero, suc, ◌==◌, nat_lt, Bool, true, if◌then◌else◌, List, [], ◌∷◌, length, Option, None, Some, option_map}
 use Rattle.std.specs.Borrow.{Bor}
 use Rattle.std.specs.List.{list_all}
 use Rattle.std.specs.Str.{byte}
 use Rattle.std.specs.declared.cmp.Ordering.{Ordering}
-use Rattle.std.specs.declared.cmp.Ordering.TheVariants.{Less, Equal, Greater}
+use Rattle.std.specs.declared.cmp.Ordering.TheVariants.{Equal, Greater}
 use Rattle.std.specs.Ordering.{nat_cmp, ordering_then, ordering_reverse}
 use Rattle.gv_version.specs.Bytes.{is_digit, is_small, front, behind}
 use Rattle.gv_version.specs.VersionForm.{kind_named}
-use Rattle.gv_version.specs.VersionOrder.{number_of, rank, cmp_later, cmp_suffix, cmp_more}
+use Rattle.gv_version.specs.VersionOrder.{number_of, cmp_later, cmp_suffix, cmp_more}
 use Rattle.gv_version.specs.VersionPieces.{Piece, first, later, letter, suffix, revision}
 use Rattle.gv_version.specs.declared.pieces.Piece as code
 use Rattle.gv_version.specs.declared.pieces.Piece.TheVariants as code_variants

@@ -162,7 +162,7 @@ pub(crate) fn longest_form(bytes: &[u8]) -> usize
 }
 
 /// Whether the bytes have the form of a version, whatever the length of their runs of digits.
-#[tactic(auto, using(crate::proofs::FormRead::form_whole))]
+#[tactic(auto, using(crate::proofs::LongestForm::form_whole))]
 pub(crate) fn has_form(bytes: &[u8]) -> bool
     ensures { result ≡ has_form bytes.now }
 {

@@ -27,7 +27,7 @@ impl Model for Version {
 }
 
 /// Why bytes are no version. Places are counted in bytes from 0.
-#[derive(Clone, Copy, Debug, Drop)]
+#[derive(Clone, Copy, Debug)]
 pub enum VersionFault {
     /// The bytes haven't the form of a version. The longest front of them that has it ends here,
     /// and none has it where this is 0.

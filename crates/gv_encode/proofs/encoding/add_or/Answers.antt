@@ -1,4 +1,4 @@
-use Rattle.std.proofs.Common.{ap, refl, rules}
+use Rattle.std.proofs.Common.{ap, refl}
 use Rattle.std.proofs.lemmas.Result.{on_ok_weaker}
 use Rattle.gv_logic.specs.Formulas.{Formula}
 use Rattle.gv_encode.proofs.Ranges.{named_turned, named_same, or_added}

@@ -1,4 +1,4 @@
-use Rattle.std.proofs.Common.{◌≡◌, ◌++◌, ◌∷◌, take}
+use Rattle.std.proofs.Common.{◌≡◌, ◌∷◌, take}
 use Rattle.gv_encode.proofs.encoding.add_whole.Given as goal
 
 abbrev pub invariant-loop-lit : goal.invariant-loop-lit

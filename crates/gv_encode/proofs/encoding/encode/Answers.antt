@@ -1,4 +1,4 @@
-use Rattle.std.proofs.Common.{◌≡◌, ◌+◌, ◌<◌, length, ap, ◌∙◌, arith}
+use Rattle.std.proofs.Common.{◌<◌, length, arith}
 use Rattle.gv_logic.specs.Circuits.{Gate}
 use Rattle.gv_encode.proofs.NextGate.{operands_earlier, clauses_step}
 use Rattle.gv_encode.proofs.encoding.encode.Goals as goal

@@ -1,4 +1,4 @@
-use Rattle.std.proofs.Common.{◌≡◌, ◌+◌, ◌++◌, [], drop, length}
+use Rattle.std.proofs.Common.{◌≡◌, ◌+◌, ◌++◌, drop, length}
 use Rattle.gv_logic.specs.Encoding.{clauses_from}
 use Rattle.gv_encode.proofs.encoding.encode.Given as goal
 

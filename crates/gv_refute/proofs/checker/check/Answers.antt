@@ -15,6 +15,6 @@ loop-i-preserved c =
     let n : length c.loop-i.marks ≡ 2 * c.args.clauses.now.variables = ap length (c.loop-i.invariant.marks ∙ c.requires) ∙ length-replicate (2 * c.args.clauses.now.variables) false in
     record {
       refused = passed_at (2 * c.args.clauses.now.variables) (length c.loop-i.marks) c.args.clauses.now.clauses c.items.result.now c.args.log.now c.items-steps.result.now c.loop-i.i n
-      c.items.ensures.items c.items-steps.ensures.items c.loop-i-test.true c.if-not-step_follows.ensures.follows c.loop-i.invariant.refused;
+          c.items.ensures.items c.items-steps.ensures.items c.loop-i-test.true c.if-not-step_follows.ensures.follows c.loop-i.invariant.refused;
       marks = c.if-not-step_follows.ensures.clean ∙ c.loop-i.invariant.marks;
     }

@@ -1,7 +1,7 @@
 use Rattle.std.proofs.Common.{◌≡◌, ◌<◌, length, take, ◌+◌, arith, ap, sym, ◌∙◌}
 use Rattle.gv_version.specs.FormReading.{run, is_whole}
 use Rattle.gv_version.specs.declared.form.State.TheVariants.{Start}
-use Rattle.gv_version.proofs.FormRead.{state_more, longest_yes, longest_no, longest_over}
+use Rattle.gv_version.proofs.LongestForm.{state_more, longest_yes, longest_no, longest_over}
 use Rattle.gv_version.proofs.form.longest_form.Goals as goal
 use Rattle.gv_version.proofs.form.longest_form.Goals.{then-is_whole, else-is_whole}
 

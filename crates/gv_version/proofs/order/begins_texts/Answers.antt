@@ -1,4 +1,4 @@
-use Rattle.std.proofs.Common.{sym, ◌∙◌}
+use Rattle.std.proofs.Common.{◌∙◌}
 use Rattle.gv_version.specs.PieceReading.{shown_piece}
 use Rattle.gv_version.proofs.PieceLaw.{begins_step}
 use Rattle.gv_version.proofs.order.begins_texts.Goals as goal

@@ -1,4 +1,4 @@
-use Rattle.std.proofs.Common.{sym, ◌∙◌}
+use Rattle.std.proofs.Common.{◌∙◌}
 use Rattle.gv_version.specs.PieceReading.{shown_piece}
 use Rattle.gv_version.proofs.PieceLaw.{compare_step}
 use Rattle.gv_version.proofs.order.compare_texts.Goals as goal
