@@ -1,0 +1,3 @@
+pub mod Dep
+pub mod DepFalls
+pub mod DepView
