@@ -6,6 +6,8 @@
 
 mod atom;
 mod fault;
+mod reading;
 
 pub use atom::Atom;
 pub use fault::{AtomFault, AtomKind};
+pub use reading::{print_atom, read_atom};
