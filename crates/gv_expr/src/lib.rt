@@ -7,6 +7,8 @@
 
 mod dep;
 mod fault;
+mod token;
 
 pub use dep::{DepExpr, DepTree};
 pub use fault::{ExprFault, ExprKind};
+pub use token::Token;

@@ -32,6 +32,14 @@ pub enum Level {
     Testing,
 }
 
+/// What a flag of a package is in a profile: not in IUSE, masked, or neither.
+#[derive(Clone, Copy, Debug)]
+pub enum FlagState {
+    Absent,
+    Off,
+    Free,
+}
+
 /// The status of a line of `profiles/profiles.desc`.
 #[derive(Clone, Copy, Debug)]
 pub enum Status {
