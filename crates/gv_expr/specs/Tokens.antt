@@ -1,16 +1,15 @@
 -- The tokens of an expression (PMS chapter 8): its words, sorted.
-use Rattle.std.specs.Prelude.{ℕ, ◌==◌, ◌-◌, Bool, true, false, if◌then◌else◌, List, [], ◌∷◌, ◌++◌, length, take, drop, map, codes}
+use Rattle.std.specs.Prelude.{ℕ, ◌==◌, ◌-◌, nat_eq, Bool, true, false, if◌then◌else◌, List, ◌∷◌, ◌++◌, length, take, drop, map, codes}
+use Rattle.std.specs.List.{ends_with}
 use Rattle.std.specs.Str.{bytes_eq, byte}
 use Rattle.gv_version.specs.Bytes.{begins_with}
-use Rattle.gv_expr.specs.Words.{words_of, joined}
+use Rattle.gv_expr.specs.Pieces.{words_of, joined}
 use Rattle.gv_expr.specs.declared.token.Token.{Token}
 use Rattle.gv_expr.specs.declared.token.Token.TheVariants.{Open, Close, If, Word}
 
--- whether the last byte is this one, and what stands before the last byte
-abbrev pub ends_in : ℕ → List ℕ → Bool
-ends_in byte [] = false
-ends_in byte (b ∷ []) = b == byte
-ends_in byte (b ∷ c ∷ bs) = ends_in byte (c ∷ bs)
+-- whether the last byte is the mark of a conditional, and what stands before the last byte
+abbrev pub is_conditional : List ℕ → Bool
+is_conditional word = ends_with nat_eq word (codes "?")
 
 abbrev pub without_last : List ℕ → List ℕ
 without_last bytes = take (length bytes - 1) bytes
@@ -25,7 +24,7 @@ abbrev pub token_of : List ℕ → Token
 token_of word =
     if bytes_eq word (codes "(") then Open else
     if bytes_eq word (codes ")") then Close else
-    if ends_in (byte "?") word then If (without_sign (without_last word)) (is_negated (without_last word)) else Word word
+    if is_conditional word then If (without_sign (without_last word)) (is_negated (without_last word)) else Word word
 
 abbrev pub signed : List ℕ → Bool → List ℕ
 signed flag false = flag

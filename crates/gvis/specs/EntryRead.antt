@@ -2,7 +2,7 @@
 use Rattle.std.specs.Prelude.{ℕ, Bool, ◌&&◌, nat_lt, length, if◌then◌else◌, List, [], map, Option, None, Some, codes}
 use Rattle.gv_expr.specs.Dep.{Dep}
 use Rattle.gv_expr.specs.DepRead.{read_dep}
-use Rattle.gv_expr.specs.Words.{words_of}
+use Rattle.gv_expr.specs.Pieces.{words_of}
 use Rattle.gvis.specs.declared.facts.Eapi.{Eapi}
 use Rattle.gvis.specs.declared.facts.Class.{Class}
 use Rattle.gvis.specs.declared.facts.Class.TheVariants.{Depend, Bdepend, Rdepend, Pdepend, Idepend}

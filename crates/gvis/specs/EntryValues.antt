@@ -2,7 +2,7 @@
 use Rattle.std.specs.Prelude.{ℕ, ◌==◌, Bool, false, ◌&&◌, ◌||◌, if◌then◌else◌, List, [], ◌∷◌, ◌++◌, drop, length, take, Option, None, Some, unwrap_or, codes}
 use Rattle.std.specs.List.{slice_split, list_all}
 use Rattle.std.specs.Str.{bytes_eq, byte}
-use Rattle.gv_expr.specs.Words.{words_of}
+use Rattle.gv_expr.specs.Pieces.{words_of}
 use Rattle.gv_version.specs.Bytes.{begins_with, is_one_of}
 use Rattle.gv_version.specs.Names.{is_slot, is_flag, is_keyword}
 use Rattle.gvis.specs.declared.facts.Eapi.{Eapi}
