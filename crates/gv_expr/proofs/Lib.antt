@@ -1,6 +1,5 @@
 pub mod DepLaw
 pub mod DepReadAgain
 pub mod Faults
-pub mod PieceLemmas
 pub mod SpacedLemmas
 pub mod Steps

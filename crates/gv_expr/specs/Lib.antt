@@ -4,7 +4,6 @@ pub mod DepGrammar
 pub mod DepRead
 pub mod DepView
 pub mod Mentioned
-pub mod Pieces
 pub mod ReaderState
 pub mod Spaced
 pub mod TokenFaults

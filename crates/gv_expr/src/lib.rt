@@ -8,7 +8,6 @@
 mod dep;
 mod fault;
 mod mentions;
-mod pieces;
 mod printing;
 mod reader;
 mod reading;
@@ -17,7 +16,6 @@ mod token;
 pub use dep::{DepExpr, DepTree};
 pub use fault::{ExprFault, ExprKind};
 pub use mentions::mentioned_dep;
-pub use pieces::{Cut, next_piece, next_word, words_of};
 pub use printing::{print_dep, print_item};
 pub use reading::read_dep;
 pub use token::Token;

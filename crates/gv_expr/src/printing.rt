@@ -21,7 +21,6 @@ pub fn print_dep(alloc: Global, items: &DepExpr) -> Result<Text, NoMemory>
 }
 
 /// The tokens of the top item with this number, from 0, joined by one space.
-
 pub fn print_item(alloc: Global, items: &DepExpr, n: u32) -> Result<Text, NoMemory>
     requires { n < length items.now }
     ensures { IfOk result (λ text. IfSome (slice_get items.now n) (λ item. text ≡ item_text item)) }

@@ -1,19 +1,34 @@
 //! Reading a dependency, token by token, with a stack of open groups. O(bytes).
-ghost use Rattle.std.specs.Prelude.{◌≡◌, List, None, Some, IfOk, IfErr};
+ghost use Rattle.std.specs.Prelude.{◌≡◌, ◌<◌, [], ◌∷◌, List, length, None, Some, IsSome, IfOk, IfErr, MatchOption};
 ghost use Rattle.gv_expr.specs.Dep.{Dep, deps};
 ghost use Rattle.gv_expr.specs.DepGrammar.{dep_tokens, IsDepOf};
 ghost use Rattle.gv_expr.specs.DepRead.{read_dep, GivesDep, IsNoDep};
 ghost use Rattle.gv_expr.specs.ReaderState.{FaultIs};
 ghost use Rattle.gv_expr.specs.TokenFaults.{first_fault};
-ghost use Rattle.gv_expr.specs.Tokens.{tokens_of};
+ghost use Rattle.gv_expr.specs.Tokens.{token_of, tokens_in, tokens_of};
+ghost use Rattle.gv_base.specs.Pieces.{left};
 
-use crate::pieces::next_word;
 use crate::reader::{Reader, StepFault};
 use crate::token::token_of;
 use crate::{DepExpr, ExprFault, ExprKind};
+use gv_base::{Cut, next_piece};
 use std::alloc::Global;
 
 const MOST_TOKENS: u32 = 100_000;
+
+// Takes the first piece that isn't empty off, where one is left.
+fn next_word<'a>(rest: &mut Option<&'a [u8]>) -> Option<&'a [u8]>
+    ensures word { MatchOption result (tokens_in (left Cut.Tokens rest.old) ≡ [])
+        (λ word. tokens_in (left Cut.Tokens rest.old) ≡ token_of word.now ∷ tokens_in (left Cut.Tokens rest.new)) }
+    ensures fewer { IsSome result → length (left Cut.Tokens rest.new) < length (left Cut.Tokens rest.old) }
+{
+    while let Some(piece) = next_piece(rest, Cut::Tokens) {
+        if !piece.is_empty() {
+            return Some(piece);
+        }
+    }
+    None
+}
 
 // The expression with these tokens, or their first fault.
 fn read_tokens(alloc: Global, bytes: &[u8]) -> Result<DepExpr, ExprFault>
