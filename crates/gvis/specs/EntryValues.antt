@@ -11,13 +11,14 @@ use Rattle.gv_version.specs.Names.{is_slot, is_flag, is_keyword}
 use Rattle.gvis.specs.declared.facts.Eapi.{Eapi}
 use Rattle.gvis.specs.declared.facts.Eapi.TheVariants.{Five, Six, Seven, Eight}
 
--- the rest of the first line that begins with the key and `=`, and nothing where there is none
-abbrev pub value_in : (key : List ℕ) → List (List ℕ) → List ℕ
-value_in key [] = []
-value_in key (line ∷ lines) = unwrap_or (after_prefix (key ++ codes "=") line) (value_in key lines)
+-- the rest of the first line that begins with the prefix, and nothing where there is none
+abbrev pub value_behind : (prefix : List ℕ) → List (List ℕ) → List ℕ
+value_behind prefix [] = []
+value_behind prefix (line ∷ lines) = unwrap_or (after_prefix prefix line) (value_behind prefix lines)
 
+-- a line of a key is the key, `=` and the value
 abbrev pub value_of : (key text : List ℕ) → List ℕ
-value_of key text = value_in key (lines_of text)
+value_of key text = value_behind (key ++ codes "=") (lines_of text)
 
 abbrev pub eapi_of : List ℕ → Option Eapi
 eapi_of value =

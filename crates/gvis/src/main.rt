@@ -5,6 +5,7 @@ mod entry;
 mod facts;
 mod judging;
 mod report;
+mod values;
 
 pub use entry::{EntryRead, read_entry};
 pub use facts::{
