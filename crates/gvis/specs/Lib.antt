@@ -7,6 +7,7 @@ pub mod Effective
 pub mod EntryRead
 pub mod EntryValues
 pub mod Holds
+pub mod Index
 pub mod Least
 pub mod Queries
 pub mod RepoReports

@@ -3,6 +3,8 @@
 
 mod entry;
 mod facts;
+mod flags;
+mod index;
 mod judging;
 mod report;
 mod values;
