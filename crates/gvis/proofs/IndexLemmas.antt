@@ -1,10 +1,9 @@
 -- An index finds all members with a key, so a look-up finds what a walk over all members would.
-use Rattle.std.proofs.Common.{◌≡◌, ℕ, ◌+◌, ◌<◌, zero, suc, Bool, true, false, cond, ◌&&◌, ◌||◌, List, [], ◌∷◌, ◌++◌, length, map, Some, None, refl, sym, ap, ◌∙◌, append-nil, append_assoc, add-one, add-zero, arith, length-append}
-use Rattle.std.specs.Prelude.{Option, slice_get, unwrap_or, if◌then◌else◌}
+use Rattle.std.proofs.Common.{◌≡◌, ℕ, ◌+◌, Bool, true, false, cond, ◌||◌, List, [], ◌∷◌, ◌++◌, length, Some, None, refl, sym, ap, ◌∙◌, append_assoc, arith, length-append}
+use Rattle.std.specs.Prelude.{unwrap_or, if◌then◌else◌}
 use Rattle.std.specs.FinMap.{get, insert, remove, get-insert, get-remove}
 use Rattle.std.specs.Map.{lookup}
 use Rattle.std.specs.List.{list_any}
-use Rattle.std.specs.Option.{option_map_or}
 use Rattle.std.specs.Ordering.{eq_by_cmp}
 use Rattle.std.specs.Str.{bytes_eq}
 use Rattle.std.specs.Cmp.Lexicographic.{nat_list_cmp_total, same_text}
@@ -14,7 +13,7 @@ use Rattle.std.proofs.lemmas.Bool.{and_parts, false≢true}
 use Rattle.std.proofs.lemmas.Cmp.{nat_list_eq_equiv}
 use Rattle.std.proofs.lemmas.Map.Text.{is_eq-slice_cmp}
 use Rattle.gv_atom.specs.declared.atom.Atom.{Atom}
-use Rattle.gv_base.specs.ByteMap.{ByteMap, map_of}
+use Rattle.gv_base.specs.ByteMap.{map_of}
 use Rattle.gv_base.specs.Order.{byte_cmp}
 use Rattle.gv_base.proofs.ByteMaps.{get-map_of}
 use Rattle.gvis.specs.declared.facts.Member.{Member}

@@ -1,3 +1,5 @@
+pub mod AssignmentLemmas
 mod Examples
+pub mod FirstFailing
 pub mod IndexLemmas
 mod Worlds

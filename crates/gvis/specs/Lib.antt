@@ -8,6 +8,7 @@ pub mod EntryRead
 pub mod EntryValues
 pub mod Holds
 pub mod Index
+pub mod Judged
 pub mod Least
 pub mod Queries
 pub mod RepoReports

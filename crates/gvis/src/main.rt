@@ -4,8 +4,11 @@
 mod entry;
 mod facts;
 mod flags;
+mod holds;
 mod index;
+mod judged;
 mod judging;
+mod least;
 mod report;
 mod values;
 
