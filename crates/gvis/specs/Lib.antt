@@ -12,6 +12,7 @@ pub mod Judged
 pub mod Least
 pub mod Queries
 pub mod RepoReports
+pub mod ReportLaws
 pub mod ReportOrder
 pub mod ReportText
 pub mod States
