@@ -3,3 +3,4 @@ mod Examples
 pub mod FirstFailing
 pub mod IndexLemmas
 mod Worlds
+pub mod WitnessLemmas

@@ -2,9 +2,6 @@
 use Rattle.std.specs.Cmp.{IsTotalOrder}
 use Rattle.std.specs.Cmp.Lexicographic.{nat_list_cmp_total}
 use Rattle.std.proofs.lemmas.Cmp.{then_total, on_total, nat_cmp_total}
-use Rattle.gvis.specs.declared.report.ContextName.{ContextName}
-use Rattle.gvis.specs.declared.report.Report.{Report}
-use Rattle.gvis.specs.declared.report.Subject.{Subject}
 use Rattle.gvis.specs.ReportOrder.{keyword_number, class_number, level_number, subject_cmp, context_cmp, answer_cmp, query_cmp, report_cmp}
 
 pub subject_total : IsTotalOrder subject_cmp

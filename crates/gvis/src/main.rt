@@ -9,7 +9,9 @@ mod index;
 mod judged;
 mod judging;
 mod least;
+mod queries;
 mod report;
+mod reporting;
 mod values;
 
 pub use entry::{EntryRead, read_entry};
