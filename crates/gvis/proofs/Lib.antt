@@ -1,6 +1,7 @@
-pub mod AssignmentLemmas
 mod Examples
+mod Worlds
+pub mod AssignmentLemmas
+pub mod CaseLemmas
 pub mod FirstFailing
 pub mod IndexLemmas
-mod Worlds
 pub mod WitnessLemmas
