@@ -1,0 +1,2 @@
+pub mod AtomLaw
+pub mod OneText

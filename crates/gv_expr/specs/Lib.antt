@@ -1,0 +1,10 @@
+pub mod Dep
+pub mod DepFalls
+pub mod DepGrammar
+pub mod DepRead
+pub mod DepView
+pub mod Mentioned
+pub mod ReaderState
+pub mod Spaced
+pub mod TokenFaults
+pub mod Tokens
