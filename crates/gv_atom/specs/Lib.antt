@@ -1,0 +1,2 @@
+pub mod AtomRead
+pub mod AtomText

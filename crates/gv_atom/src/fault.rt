@@ -1,0 +1,31 @@
+use gv_base::NoMemory;
+
+/// The part of an atom that is bad.
+#[derive(Clone, Copy, Debug)]
+pub enum AtomKind {
+    Category,
+    Package,
+    Version,
+    Repo,
+    Slot,
+    Item,
+}
+
+/// Why bytes were not read as an atom.
+#[derive(Clone, Copy, Debug)]
+pub enum AtomFault {
+    /// They are no atom: which part is bad, and the place in the bytes where that part begins, from 0.
+    Bad { kind: AtomKind, at: u32 },
+    NoMemory,
+}
+
+impl From<NoMemory> for AtomFault {
+    ghost use Rattle.std.specs.Prelude.{◌≡◌};
+    ghost use Rattle.gv_atom.specs.declared.fault.AtomFault.TheVariants.{NoMemory};
+
+    ghost from_gives = { λ _ fault. fault ≡ NoMemory };
+
+    fn from(_refused: NoMemory) -> AtomFault {
+        AtomFault::NoMemory
+    }
+}

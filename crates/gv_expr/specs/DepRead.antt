@@ -1,0 +1,45 @@
+-- The trees of tokens that have no fault, from the last token to the first: a list for each open group.
+use Rattle.std.specs.Prelude.{◌≡◌, ℕ, is_none, if◌then◌else◌, List, [], ◌∷◌, Option, None, Some, Result, Ok, Err}
+use Rattle.gv_atom.specs.declared.atom.Atom.{Atom}
+use Rattle.gv_atom.specs.AtomRead.{read_atom}
+use Rattle.gv_expr.specs.declared.token.Token.{Token}
+use Rattle.gv_expr.specs.declared.token.Token.TheVariants as tokens
+use Rattle.gv_expr.specs.declared.fault.ExprFault.{ExprFault}
+use Rattle.gv_expr.specs.declared.fault.ExprFault.TheVariants.{Bad, NoMemory}
+use Rattle.gv_expr.specs.declared.fault.ExprKind.TheVariants.{Stray}
+use Rattle.gv_expr.specs.Dep.{Dep, Deps, leaf, when, end, more, listed, top}
+use Rattle.gv_expr.specs.Tokens.{tokens_of}
+use Rattle.gv_expr.specs.TokenFaults.{first_fault}
+
+-- a leaf before the rest of its group
+abbrev pub with_leaf : Option Atom → List Deps → List Deps
+with_leaf (Some atom) (rest ∷ outer) = more (leaf atom) rest ∷ outer
+with_leaf atom groups = groups
+
+-- a group that opens here, before the rest of the group that it stands in
+abbrev pub with_group : (Deps → Dep) → List Deps → List Deps
+with_group make (items ∷ rest ∷ outer) = more (make items) rest ∷ outer
+with_group make groups = groups
+
+abbrev pub dep_groups : List Token → List Deps
+dep_groups [] = end ∷ []
+dep_groups (tokens.Close ∷ ts) = end ∷ dep_groups ts
+dep_groups (tokens.If flag negated ∷ tokens.Open ∷ ts) = with_group (when flag negated) (dep_groups ts)
+dep_groups (tokens.Word text ∷ ts) = with_leaf (read_atom text) (dep_groups ts)
+dep_groups (t ∷ ts) = dep_groups ts
+
+-- None exactly where the bytes are no dependency within the limits
+abbrev pub read_dep : List ℕ → Option (List Dep)
+read_dep bytes =
+    if is_none (first_fault (tokens_of bytes)) then Some (listed (top (dep_groups (tokens_of bytes)))) else None
+
+-- the bytes are no dependency within the limits; which token is at fault isn't told yet
+abbrev pub IsNoDep : List ℕ → ExprFault → Type 0
+IsNoDep bytes (Bad token kind) = (read_dep bytes ≡ None) × (token ≡ 0) × (kind ≡ Stray)
+IsNoDep bytes NoMemory = Unit {0}
+
+-- this dependency was read, or memory ran out
+abbrev pub GivesDep : Result (List Dep) ExprFault → List Dep → Type 0
+GivesDep (Ok read) ts = read ≡ ts
+GivesDep (Err (Bad token kind)) ts = ⊥
+GivesDep (Err NoMemory) ts = Unit {0}

@@ -1,0 +1,9 @@
+pub mod Dep
+pub mod DepFalls
+pub mod DepGrammar
+pub mod DepRead
+pub mod DepView
+pub mod Mentioned
+pub mod TokenFaults
+pub mod Tokens
+pub mod Words

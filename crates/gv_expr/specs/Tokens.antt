@@ -1,0 +1,45 @@
+-- The tokens of an expression (PMS chapter 8): its words, sorted.
+use Rattle.std.specs.Prelude.{ℕ, ◌==◌, ◌-◌, Bool, true, false, if◌then◌else◌, List, [], ◌∷◌, ◌++◌, length, take, drop, map, codes}
+use Rattle.std.specs.Str.{bytes_eq, byte}
+use Rattle.gv_version.specs.Bytes.{begins_with}
+use Rattle.gv_expr.specs.Words.{words_of, joined}
+use Rattle.gv_expr.specs.declared.token.Token.{Token}
+use Rattle.gv_expr.specs.declared.token.Token.TheVariants.{Open, Close, If, Word}
+
+-- whether the last byte is this one, and what stands before the last byte
+abbrev pub ends_in : ℕ → List ℕ → Bool
+ends_in byte [] = false
+ends_in byte (b ∷ []) = b == byte
+ends_in byte (b ∷ c ∷ bs) = ends_in byte (c ∷ bs)
+
+abbrev pub without_last : List ℕ → List ℕ
+without_last bytes = take (length bytes - 1) bytes
+
+abbrev pub is_negated : List ℕ → Bool
+is_negated text = begins_with (λ b. b == byte "!") text
+
+abbrev pub without_sign : List ℕ → List ℕ
+without_sign text = if is_negated text then drop 1 text else text
+
+abbrev pub token_of : List ℕ → Token
+token_of word =
+    if bytes_eq word (codes "(") then Open else
+    if bytes_eq word (codes ")") then Close else
+    if ends_in (byte "?") word then If (without_sign (without_last word)) (is_negated (without_last word)) else Word word
+
+abbrev pub signed : List ℕ → Bool → List ℕ
+signed flag false = flag
+signed flag true = byte "!" ∷ flag
+
+abbrev pub token_text : Token → List ℕ
+token_text Open = codes "("
+token_text Close = codes ")"
+token_text (If flag negated) = signed flag negated ++ codes "?"
+token_text (Word text) = text
+
+abbrev pub tokens_of : List ℕ → List Token
+tokens_of bytes = map token_of (words_of bytes)
+
+-- the tokens with one space between
+abbrev pub tokens_text : List Token → List ℕ
+tokens_text tokens = joined (map token_text tokens)

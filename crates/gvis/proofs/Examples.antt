@@ -1,0 +1,131 @@
+-- Worked examples of entries and reports.
+use Rattle.std.specs.Prelude.{◌≡◌, ℕ, true, false, List, [], ◌∷◌, ◌++◌, None, Some, map, refl, codes}
+use Rattle.gvis.specs.declared.facts.Member.{Member}
+use Rattle.gvis.specs.declared.facts.Status.TheVariants.{Stable, Exp}
+use Rattle.gvis.specs.declared.entry.EntryRead.TheVariants.{NoPackage, NotBuilt}
+use Rattle.gvis.specs.EntryRead.{entry_of}
+use Rattle.gvis.specs.EntryValues.{value_of, is_slot_value, is_keyword_word, is_iuse_word}
+use Rattle.gvis.specs.RepoReports.{scan_text, first_wide}
+use Rattle.gvis.proofs.Worlds.{profile_of, base_with, mask, unmask, of_entry, usual, app, other, repo_of}
+
+-- nothing to report
+empty : scan_text (repo_of (base_with [] ∷ []) []) ≡ []
+empty = refl
+
+-- a dependency that no package meets
+missing : scan_text (repo_of (base_with [] ∷ []) (app (usual (codes "RDEPEND=x/y\n"))))
+    ≡ codes "app/p-1: NonsolvableDepsInStable: RDEPEND: amd64 base stable: USE=\"\": x/y\n"
+missing = refl
+
+-- a dependency under a flag, on a package that is shown at testing alone
+conditional : List Member
+conditional = app (usual (codes "IUSE=a\nRDEPEND=a? ( x/y )\n")) ++ other (codes "EAPI=8\nSLOT=0\nKEYWORDS=~amd64\n")
+
+under_a_flag : scan_text (repo_of (base_with [] ∷ []) conditional)
+    ≡ codes "app/p-1: NonsolvableDepsInStable: RDEPEND: amd64 base stable: USE=\"a\": a? ( x/y )\n"
+unfolding conditional
+under_a_flag = refl
+
+-- the flag is masked, so it is off
+masked : scan_text (repo_of (base_with (mask (codes "a") ∷ []) ∷ []) conditional) ≡ []
+unfolding conditional
+masked = refl
+
+-- the last word that names the flag decides
+unmasked : scan_text (repo_of (base_with (mask (codes "a") ∷ mask (codes "b") ∷ unmask (codes "a") ∷ []) ∷ []) conditional)
+    ≡ codes "app/p-1: NonsolvableDepsInStable: RDEPEND: amd64 base stable: USE=\"a\": a? ( x/y )\n"
+unfolding conditional
+unmasked = refl
+
+-- a flag that isn't in IUSE is off, and no flag of the query
+absent : scan_text (repo_of (base_with [] ∷ []) (app (usual (codes "RDEPEND=a? ( x/y ) !b? ( x/z )\n"))))
+    ≡ codes "app/p-1: NonsolvableDepsInStable: RDEPEND: amd64 base stable: USE=\"\": !b? ( x/z )\n"
+absent = refl
+
+-- off before on, flag by flag in byte order, and the first top item that doesn't hold
+least_witness : scan_text (repo_of (base_with [] ∷ []) (app (usual (codes "IUSE=c a +b\nDEPEND=c? ( x/none )  a? (\tb? ( x/none ) )\n"))))
+    ≡ codes "app/p-1: NonsolvableDepsInStable: DEPEND: amd64 base stable: USE=\"-a -b c\": c? ( x/none )\n"
+least_witness = refl
+
+-- a package that is judged at testing sees packages of both kinds
+at_testing : scan_text (repo_of (base_with [] ∷ [])
+    (of_entry (codes "app") (codes "p") 1 (codes "p-1") (codes "EAPI=7\nSLOT=0/2\nKEYWORDS=x86 ~amd64\nBDEPEND=x/y x/z\nIDEPEND=x/none\n")
+    ++ (other (codes "EAPI=8\nSLOT=0\nKEYWORDS=~amd64\n") ++ of_entry (codes "x") (codes "z") 0 (codes "z-0") (usual []))))
+    ≡ []
+at_testing = refl
+
+-- a package that is not judged is not seen either
+elsewhere : scan_text (repo_of (base_with [] ∷ []) (of_entry (codes "app") (codes "p") 1 (codes "p-1") (codes "EAPI=5\nSLOT=0\nKEYWORDS=x86 -amd64\nDEPEND=x/y\n"))) ≡ []
+elsewhere = refl
+
+-- packages by category, name, version as a number; keywords, classes, lines
+in_their_order : scan_text (repo_of (base_with [] ∷ profile_of 3 (codes "amd64") (codes "new") Exp [] ∷ profile_of 4 (codes "amd64") (codes "dev") Stable [] ∷ [])
+    (of_entry (codes "app") (codes "p") 10 (codes "p-10") (usual (codes "RDEPEND=x/y\n"))
+    ++ (of_entry (codes "app") (codes "p") 2 (codes "p-2") (usual (codes "RDEPEND=x/y\nDEPEND=x/z\n")))))
+    ≡ codes "app/p-2: NonsolvableDepsInStable: DEPEND: amd64 base stable: USE=\"\": x/z\n"
+    ++ (codes "app/p-2: NonsolvableDepsInStable: DEPEND: amd64 dev stable: USE=\"\": x/z\n"
+    ++ (codes "app/p-2: NonsolvableDepsInStable: RDEPEND: amd64 base stable: USE=\"\": x/y\n"
+    ++ (codes "app/p-2: NonsolvableDepsInStable: RDEPEND: amd64 dev stable: USE=\"\": x/y\n"
+    ++ (codes "app/p-2: NonsolvableDepsInExp: DEPEND: amd64 new stable: USE=\"\": x/z\n"
+    ++ (codes "app/p-2: NonsolvableDepsInExp: RDEPEND: amd64 new stable: USE=\"\": x/y\n"
+    ++ (codes "app/p-10: NonsolvableDepsInStable: RDEPEND: amd64 base stable: USE=\"\": x/y\n"
+    ++ (codes "app/p-10: NonsolvableDepsInStable: RDEPEND: amd64 dev stable: USE=\"\": x/y\n"
+    ++ codes "app/p-10: NonsolvableDepsInExp: RDEPEND: amd64 new stable: USE=\"\": x/y\n")))))))
+in_their_order = refl
+
+-- Flags of a query: twelve are tried, thirteen are too many.
+flags_from : List (List ℕ) → List ℕ
+flags_from [] = []
+flags_from (f ∷ fs) = f ++ (codes "? ( x/none ) " ++ flags_from fs)
+
+twelve : List (List ℕ)
+twelve = map (λ b. b ∷ []) (codes "abcdefghijkl")
+
+wide_entry : List ℕ → List (List ℕ) → List ℕ
+wide_entry iuse flags = usual (codes "IUSE=" ++ (iuse ++ (codes "\nPDEPEND=" ++ (flags_from flags ++ codes "\n"))))
+
+of_twelve : first_wide (repo_of (base_with [] ∷ []) (app (wide_entry (codes "a b c d e f g h i j k l m") twelve))) ≡ None
+unfolding flags_from twelve wide_entry
+of_twelve = refl
+
+of_thirteen : first_wide (repo_of (base_with [] ∷ [])
+    (other (wide_entry (codes "a b c d e f g h i j k l m") (twelve ++ codes "m" ∷ [])) ++ app (wide_entry (codes "a b c d e f g h i j k l m") (twelve ++ codes "m" ∷ []))))
+    ≡ Some (codes "app/p-1")
+unfolding flags_from twelve wide_entry
+of_thirteen = refl
+
+-- Entries.
+no_eapi : entry_of (codes "app") (codes "p") 1 (codes "p-1") (codes "EAPI=9\nSLOT=0\nRDEPEND=|| ( )\n") ≡ NoPackage
+no_eapi = refl
+
+carriage_return : entry_of (codes "app") (codes "p") 1 (codes "p-1") (codes "EAPI=8\r\nSLOT=0\n") ≡ NoPackage
+carriage_return = refl
+
+-- the first line of a key counts
+first_line : value_of (codes "SLOT") (codes "XSLOT=2\nSLOT=0\nSLOT=1") ≡ codes "0"
+first_line = refl
+
+required : entry_of (codes "app") (codes "p") 1 (codes "p-1") (usual (codes "REQUIRED_USE=a\n")) ≡ NotBuilt
+required = refl
+
+no_required : entry_of (codes "app") (codes "p") 1 (codes "p-1") (codes "EAPI=9\nREQUIRED_USE=a\n") ≡ NoPackage
+no_required = refl
+
+group : entry_of (codes "app") (codes "p") 1 (codes "p-1") (usual (codes "DEPEND=|| ( x/y )\n")) ≡ NotBuilt
+group = refl
+
+-- a class that the EAPI lacks isn't read
+not_of_the_eapi : scan_text (repo_of (base_with [] ∷ []) (app (codes "EAPI=6\nSLOT=0\nKEYWORDS=amd64\nBDEPEND=|| ( x/y )\nIDEPEND=x/y\n"))) ≡ []
+not_of_the_eapi = refl
+
+slots : map is_slot_value (codes "0" ∷ codes "0/1" ∷ codes "0/" ∷ codes "/0" ∷ [] ∷ codes "0/1/2" ∷ codes "-0" ∷ codes "0 " ∷ [])
+    ≡ true ∷ true ∷ false ∷ false ∷ false ∷ false ∷ false ∷ false ∷ []
+slots = refl
+
+keywords : map is_keyword_word (codes "amd64" ∷ codes "~amd64" ∷ codes "-amd64" ∷ codes "-*" ∷ codes "~*" ∷ codes "*" ∷ codes "--x" ∷ codes "~" ∷ [])
+    ≡ true ∷ true ∷ true ∷ true ∷ false ∷ false ∷ false ∷ false ∷ []
+keywords = refl
+
+flags : map is_iuse_word (codes "a" ∷ codes "+a" ∷ codes "-a" ∷ codes "++a" ∷ codes "_a" ∷ codes "+" ∷ [])
+    ≡ true ∷ true ∷ true ∷ false ∷ false ∷ false ∷ []
+flags = refl

@@ -1,0 +1,16 @@
+pub mod Allowed
+pub mod AtomMet
+pub mod Cases
+pub mod Causes
+pub mod Classes
+pub mod Effective
+pub mod EntryRead
+pub mod EntryValues
+pub mod Holds
+pub mod Least
+pub mod Queries
+pub mod RepoReports
+pub mod ReportOrder
+pub mod ReportText
+pub mod States
+pub mod Visible

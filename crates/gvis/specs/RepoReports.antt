@@ -1,0 +1,75 @@
+-- The reports of a repository, and the text of a scan.
+use Rattle.std.specs.Prelude.{ℕ, Bool, true, false, List, [], ◌∷◌, ◌++◌, Option, None, Some, option_map, map, filter, flat_map, filter_map, unwrap_or, fold, codes}
+use Rattle.std.specs.BTreeSet.{insert_key}
+use Rattle.gv_expr.specs.DepGrammar.{item_text}
+use Rattle.gv_expr.specs.Words.{joined}
+use Rattle.gvis.specs.declared.facts.Class.{Class}
+use Rattle.gvis.specs.declared.facts.Pkg.{Pkg}
+use Rattle.gvis.specs.declared.facts.Repo.{Repo}
+use Rattle.gvis.specs.declared.facts.Status.{Status}
+use Rattle.gvis.specs.declared.facts.Status.TheVariants.{Stable, Dev, Exp}
+use Rattle.gvis.specs.declared.report.ContextName.{ContextName}
+use Rattle.gvis.specs.declared.report.Keyword.{Keyword}
+use Rattle.gvis.specs.declared.report.Keyword.TheVariants as keywords
+use Rattle.gvis.specs.declared.report.Report.{Report}
+use Rattle.gvis.specs.declared.report.Subject.{Subject}
+use Rattle.gvis.specs.Allowed.{Parent, assignment, first_failing}
+use Rattle.gvis.specs.Cases.{Case, cases}
+use Rattle.gvis.specs.Queries.{classes, class_of, flags_of, has_query, has_wide, least_asked}
+use Rattle.gvis.specs.ReportOrder.{subject_cmp, ordered}
+use Rattle.gvis.specs.ReportText.{report_text, subject_text}
+
+abbrev pub subject_of : Pkg → Subject
+subject_of p = record { category = p.category; name = p.name; version = p.version; pf = p.pf }
+
+abbrev pub context_of : Parent → ContextName
+context_of c = record { line = c.profile.line; arch = c.profile.arch; path = c.profile.path; level = c.level }
+
+-- the keyword for a profile of this status
+abbrev pub query_keyword : Status → Keyword
+query_keyword Stable = keywords.NonsolvableDepsInStable
+query_keyword Dev = keywords.NonsolvableDepsInDev
+query_keyword Exp = keywords.NonsolvableDepsInExp
+
+-- the flags, each with `-` before it where it is off
+abbrev pub witness_words : List (List ℕ) → List Bool → List (List ℕ)
+witness_words [] bits = []
+witness_words (f ∷ fs) [] = []
+witness_words (f ∷ fs) (true ∷ bs) = f ∷ witness_words fs bs
+witness_words (f ∷ fs) (false ∷ bs) = (codes "-" ++ f) ∷ witness_words fs bs
+
+-- a class that fails under these bits, with the first top item that doesn't hold
+abbrev pub nonsolvable : Case → Class → List Bool → Report
+nonsolvable c class bits = record {
+  subject = subject_of c.member.pkg;
+  keyword = query_keyword c.parent.profile.status;
+  class = class;
+  context = context_of c.parent;
+  witness = joined (witness_words (flags_of c class) bits);
+  detail = unwrap_or (option_map item_text (first_failing c.parent (class_of c class) (assignment (flags_of c class) bits))) [];
+}
+
+abbrev pub query_report : Case → Class → Option Report
+query_report c class = option_map (nonsolvable c class) (least_asked c class)
+
+abbrev pub case_reports : Case → List Report
+case_reports c = filter_map (query_report c) (filter (has_query c) classes)
+
+-- all reports, in some order
+abbrev pub reports : Repo → List Report
+reports repo = flat_map case_reports (cases repo)
+
+abbrev pub scan_text : Repo → List ℕ
+scan_text repo = report_text (ordered (reports repo))
+
+-- The packages that have a query of too many flags.
+abbrev pub wide_subjects : Repo → List Subject
+wide_subjects repo = map (λ c. subject_of c.member.pkg) (filter has_wide (cases repo))
+
+abbrev pub first_of : List Subject → Option Subject
+first_of [] = None
+first_of (s ∷ ss) = Some s
+
+-- CATEGORY/PF of the first of them in package order: queries are ordered by package before all else
+abbrev pub first_wide : Repo → Option (List ℕ)
+first_wide repo = option_map subject_text (first_of (fold (insert_key subject_cmp) [] (wide_subjects repo)))

@@ -1,0 +1,20 @@
+//! `gvis`: which dependencies of a Gentoo repository can't be met, and under which USE flags.
+#![tactic(auto)]
+
+mod entry;
+mod facts;
+mod judging;
+mod report;
+
+pub use entry::{EntryRead, read_entry};
+pub use facts::{
+    Body, Class, Eapi, FlagState, Level, Member, Members, Pkg, Profile, Profiles, Repo, Rule,
+    Rules, Status,
+};
+pub use judging::{JudgeFault, report_text};
+pub use report::{ContextName, Keyword, Report, Subject};
+use std::process::ExitCode;
+
+fn main(rt: HostRuntime) -> ExitCode {
+    ExitCode::from(2)
+}
