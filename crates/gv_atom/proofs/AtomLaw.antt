@@ -29,7 +29,7 @@ none_within (b ∷ bs) h =
     let here = no_slash b parts.0 in
     rw here (omega (arith, none_within bs parts.1))
 
-has_category_bytes : (category : List ℕ) → is_category category ≡ true → list_all is_category_byte category ≡ true
+pub has_category_bytes : (category : List ℕ) → is_category category ≡ true → list_all is_category_byte category ≡ true
 has_category_bytes [] h = refl
 has_category_bytes (b ∷ bs) h = (and_parts _ _ h).0
 
@@ -52,7 +52,7 @@ good_behind : (category name : List ℕ) (b : Bool) → b ≡ true → cond b (S
 good_behind category name true e = refl
 good_behind category name false e = absurd (false≢true e)
 
-written : (a : Atom) → is_atom a ≡ true → read_atom (atom_text a) ≡ Some a
+pub written : (a : Atom) → is_atom a ≡ true → read_atom (atom_text a) ≡ Some a
 written a good =
     let bytes = has_category_bytes a.category (and_parts (is_category a.category) (is_plain_name a.name) good).0 in
     behind_seam a.category a.name _ (slash_behind a.category a.name bytes) ∙ good_behind a.category a.name (is_atom a) good

@@ -1,1 +1,2 @@
 pub mod AtomLaw
+pub mod OneText

@@ -4,6 +4,7 @@ pub mod DepGrammar
 pub mod DepRead
 pub mod DepView
 pub mod Mentioned
+pub mod ReaderState
+pub mod Spaced
 pub mod TokenFaults
 pub mod Tokens
-pub mod Words

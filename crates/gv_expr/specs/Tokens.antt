@@ -1,19 +1,17 @@
 -- The tokens of an expression (PMS chapter 8): its words, sorted.
-use Rattle.std.specs.Prelude.{ℕ, ◌==◌, ◌-◌, Bool, true, false, if◌then◌else◌, List, [], ◌∷◌, ◌++◌, length, take, drop, map, codes}
+use Rattle.std.specs.Prelude.{ℕ, ◌==◌, nat_eq, Bool, true, false, not, if◌then◌else◌, List, ◌∷◌, ◌++◌, drop, filter, map, codes}
+use Rattle.std.specs.List.{ends_with}
 use Rattle.std.specs.Str.{bytes_eq, byte}
+use Rattle.gv_base.specs.Cut.{without_last}
+use Rattle.gv_base.specs.Words as words
+use Rattle.gv_base.specs.Words.{is_empty, joined}
 use Rattle.gv_version.specs.Bytes.{begins_with}
-use Rattle.gv_expr.specs.Words.{words_of, joined}
 use Rattle.gv_expr.specs.declared.token.Token.{Token}
 use Rattle.gv_expr.specs.declared.token.Token.TheVariants.{Open, Close, If, Word}
 
--- whether the last byte is this one, and what stands before the last byte
-abbrev pub ends_in : ℕ → List ℕ → Bool
-ends_in byte [] = false
-ends_in byte (b ∷ []) = b == byte
-ends_in byte (b ∷ c ∷ bs) = ends_in byte (c ∷ bs)
-
-abbrev pub without_last : List ℕ → List ℕ
-without_last bytes = take (length bytes - 1) bytes
+-- whether the last byte is the mark of a conditional
+abbrev pub is_conditional : List ℕ → Bool
+is_conditional word = ends_with nat_eq word (codes "?")
 
 abbrev pub is_negated : List ℕ → Bool
 is_negated text = begins_with (λ b. b == byte "!") text
@@ -25,7 +23,7 @@ abbrev pub token_of : List ℕ → Token
 token_of word =
     if bytes_eq word (codes "(") then Open else
     if bytes_eq word (codes ")") then Close else
-    if ends_in (byte "?") word then If (without_sign (without_last word)) (is_negated (without_last word)) else Word word
+    if is_conditional word then If (without_sign (without_last word)) (is_negated (without_last word)) else Word word
 
 abbrev pub signed : List ℕ → Bool → List ℕ
 signed flag false = flag
@@ -38,7 +36,11 @@ token_text (If flag negated) = signed flag negated ++ codes "?"
 token_text (Word text) = text
 
 abbrev pub tokens_of : List ℕ → List Token
-tokens_of bytes = map token_of (words_of bytes)
+tokens_of bytes = map token_of (words.tokens_of bytes)
+
+-- the tokens of the pieces of a text that aren't empty
+abbrev pub tokens_in : List (List ℕ) → List Token
+tokens_in pieces = map token_of (filter (λ piece. not (is_empty piece)) pieces)
 
 -- the tokens with one space between
 abbrev pub tokens_text : List Token → List ℕ

@@ -7,8 +7,15 @@
 
 mod dep;
 mod fault;
+mod mentions;
+mod printing;
+mod reader;
+mod reading;
 mod token;
 
 pub use dep::{DepExpr, DepTree};
 pub use fault::{ExprFault, ExprKind};
+pub use mentions::mentioned_dep;
+pub use printing::{print_dep, print_item};
+pub use reading::read_dep;
 pub use token::Token;

@@ -1,6 +1,11 @@
-use gv_base::Text;
+//! Tokens: the words of an expression, sorted. O(the word's bytes).
+ghost use Rattle.std.specs.Prelude.{◌≡◌, IfOk};
+ghost use Rattle.gv_expr.specs.Tokens.{is_negated, without_sign, token_of};
 
-/// A token of an expression: a word, sorted.
+use gv_base::{NoMemory, Text};
+use std::alloc::Global;
+
+/// A token of an expression.
 #[derive(Drop)]
 pub enum Token {
     Open,
@@ -9,4 +14,38 @@ pub enum Token {
     If { flag: Text, negated: bool },
     /// Any other word.
     Word { text: Text },
+}
+
+// The token of a conditional whose `?` was taken off.
+fn conditional(alloc: Global, text: &[u8]) -> Result<Token, NoMemory>
+    ensures { IfOk result (λ token. token ≡ Token.If (without_sign text.now) (is_negated text.now)) }
+{
+    match text {
+        [b'!', flag @ ..] => Ok(Token::If {
+            flag: Text::of(alloc, flag)?,
+            negated: true,
+        }),
+        _ => Ok(Token::If {
+            flag: Text::of(alloc, text)?,
+            negated: false,
+        }),
+    }
+}
+
+/// The token that a word is.
+pub fn token_of(alloc: Global, word: &[u8]) -> Result<Token, NoMemory>
+    ensures { IfOk result (λ token. token ≡ token_of word.now) }
+{
+    if word == b"(".as_slice() {
+        return Ok(Token::Open);
+    }
+    if word == b")".as_slice() {
+        return Ok(Token::Close);
+    }
+    if word.ends_with(b"?".as_slice()) {
+        return conditional(alloc, &word[..word.len() - 1]);
+    }
+    Ok(Token::Word {
+        text: Text::of(alloc, word)?,
+    })
 }

@@ -1,7 +1,7 @@
 -- The effective flags of a package (PMS chapter 11): those of IUSE.
 use Rattle.std.specs.Prelude.{ℕ, Bool, List}
+use Rattle.gv_base.specs.Order.{has_text}
 use Rattle.gvis.specs.declared.facts.Pkg.{Pkg}
-use Rattle.gvis.specs.Visible.{has_text}
 
 abbrev pub is_effective : Pkg → List ℕ → Bool
 is_effective p flag = has_text p.iuse flag

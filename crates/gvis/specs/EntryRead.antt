@@ -2,7 +2,7 @@
 use Rattle.std.specs.Prelude.{ℕ, Bool, ◌&&◌, nat_lt, length, if◌then◌else◌, List, [], map, Option, None, Some, codes}
 use Rattle.gv_expr.specs.Dep.{Dep}
 use Rattle.gv_expr.specs.DepRead.{read_dep}
-use Rattle.gv_expr.specs.Words.{words_of}
+use Rattle.gv_base.specs.Words.{tokens_of}
 use Rattle.gvis.specs.declared.facts.Eapi.{Eapi}
 use Rattle.gvis.specs.declared.facts.Class.{Class}
 use Rattle.gvis.specs.declared.facts.Class.TheVariants.{Depend, Bdepend, Rdepend, Pdepend, Idepend}
@@ -20,8 +20,8 @@ pkg_of category name version pf eapi text = record {
   version = version;
   pf = pf;
   eapi = eapi;
-  keywords = words_of (value_of (codes "KEYWORDS") text);
-  iuse = map (unmarked (codes "+-")) (words_of (value_of (codes "IUSE") text));
+  keywords = tokens_of (value_of (codes "KEYWORDS") text);
+  iuse = map (unmarked (codes "+-")) (tokens_of (value_of (codes "IUSE") text));
 }
 
 -- whether SLOT and the words of KEYWORDS and IUSE are those of a package
@@ -49,7 +49,7 @@ body_of eapi text =
 
 -- REQUIRED_USE isn't read yet
 abbrev pub has_required : (text : List ℕ) → Bool
-has_required text = nat_lt 0 (length (words_of (value_of (codes "REQUIRED_USE") text)))
+has_required text = nat_lt 0 (length (tokens_of (value_of (codes "REQUIRED_USE") text)))
 
 abbrev pub member_of : Pkg → Option Body → EntryRead
 member_of pkg None = NotBuilt

@@ -1,28 +1,24 @@
 -- The values and words of a cache entry (PMS chapter 14, md5-dict).
-use Rattle.std.specs.Prelude.{ℕ, ◌==◌, Bool, false, ◌&&◌, ◌||◌, if◌then◌else◌, List, [], ◌∷◌, ◌++◌, drop, length, take, Option, None, Some, unwrap_or, codes}
-use Rattle.std.specs.List.{slice_split, list_all}
-use Rattle.std.specs.Str.{bytes_eq, byte}
-use Rattle.gv_expr.specs.Words.{words_of}
+use Rattle.std.specs.Prelude.{ℕ, Bool, false, ◌&&◌, ◌||◌, if◌then◌else◌, List, [], ◌∷◌, ◌++◌, drop, Option, None, Some, unwrap_or, codes}
+use Rattle.std.specs.List.{list_all}
+use Rattle.std.specs.Str.{bytes_eq}
+use Rattle.gv_base.specs.Cut.{after_prefix}
+use Rattle.gv_base.specs.Pieces.{pieces}
+use Rattle.gv_base.specs.Words.{lines_of, tokens_of}
+use Rattle.gv_base.specs.declared.pieces.Cut.TheVariants.{Parts}
 use Rattle.gv_version.specs.Bytes.{begins_with, is_one_of}
 use Rattle.gv_version.specs.Names.{is_slot, is_flag, is_keyword}
 use Rattle.gvis.specs.declared.facts.Eapi.{Eapi}
 use Rattle.gvis.specs.declared.facts.Eapi.TheVariants.{Five, Six, Seven, Eight}
 
--- the parts between line feeds; what follows the last one is a line too
-abbrev pub lines_of : List ℕ → List (List ℕ)
-lines_of bytes = slice_split (λ b. b == 10) bytes
+-- the rest of the first line that begins with the prefix, and nothing where there is none
+abbrev pub value_behind : (prefix : List ℕ) → List (List ℕ) → List ℕ
+value_behind prefix [] = []
+value_behind prefix (line ∷ lines) = unwrap_or (after_prefix prefix line) (value_behind prefix lines)
 
--- what follows the prefix, where the bytes begin with it
-abbrev pub after_prefix : List ℕ → List ℕ → Option (List ℕ)
-after_prefix prefix bytes = if bytes_eq (take (length prefix) bytes) prefix then Some (drop (length prefix) bytes) else None
-
--- the rest of the first line that begins with the key and `=`, and nothing where there is none
-abbrev pub value_in : (key : List ℕ) → List (List ℕ) → List ℕ
-value_in key [] = []
-value_in key (line ∷ lines) = unwrap_or (after_prefix (key ++ codes "=") line) (value_in key lines)
-
+-- a line of a key is the key, `=` and the value
 abbrev pub value_of : (key text : List ℕ) → List ℕ
-value_of key text = value_in key (lines_of text)
+value_of key text = value_behind (key ++ codes "=") (lines_of text)
 
 abbrev pub eapi_of : List ℕ → Option Eapi
 eapi_of value =
@@ -38,7 +34,7 @@ are_slots (slot ∷ sub ∷ []) = is_slot slot && is_slot sub
 are_slots parts = false
 
 abbrev pub is_slot_value : List ℕ → Bool
-is_slot_value value = are_slots (slice_split (λ b. b == byte "/") value)
+is_slot_value value = are_slots (pieces Parts value)
 
 -- a word without one of the marks in front
 abbrev pub unmarked : (marks : List ℕ) → List ℕ → List ℕ
@@ -51,4 +47,4 @@ abbrev pub is_iuse_word : List ℕ → Bool
 is_iuse_word word = is_flag (unmarked (codes "+-") word)
 
 abbrev pub are_words_good : (List ℕ → Bool) → List ℕ → Bool
-are_words_good test value = list_all test (words_of value)
+are_words_good test value = list_all test (tokens_of value)

@@ -2,7 +2,7 @@
 use Rattle.std.specs.Prelude.{ℕ, Bool, true, false, List, [], ◌∷◌, ◌++◌, Option, None, Some, option_map, map, filter, flat_map, filter_map, unwrap_or, fold, codes}
 use Rattle.std.specs.BTreeSet.{insert_key}
 use Rattle.gv_expr.specs.DepGrammar.{item_text}
-use Rattle.gv_expr.specs.Words.{joined}
+use Rattle.gv_base.specs.Words.{joined}
 use Rattle.gvis.specs.declared.facts.Class.{Class}
 use Rattle.gvis.specs.declared.facts.Pkg.{Pkg}
 use Rattle.gvis.specs.declared.facts.Repo.{Repo}

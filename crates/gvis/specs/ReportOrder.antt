@@ -3,7 +3,7 @@ use Rattle.std.specs.Prelude.{ℕ, List, [], fold}
 use Rattle.std.specs.BTreeSet.{insert_key}
 use Rattle.std.specs.declared.cmp.Ordering.{Ordering}
 use Rattle.std.specs.Ordering.{nat_cmp, ordering_then}
-use Rattle.gv_base.specs.FileMap.{byte_cmp}
+use Rattle.gv_base.specs.Order.{byte_cmp}
 use Rattle.gvis.specs.declared.facts.Class.{Class}
 use Rattle.gvis.specs.declared.facts.Class.TheVariants as classes
 use Rattle.gvis.specs.declared.facts.Level.{Level}

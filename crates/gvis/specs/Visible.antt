@@ -1,15 +1,11 @@
 -- Which packages a profile shows, and at which level it judges them (PMS chapters 5 and 7).
 use Rattle.std.specs.Prelude.{ℕ, Bool, ◌||◌, if◌then◌else◌, List, ◌∷◌, Option, None, Some}
-use Rattle.std.specs.List.{list_any}
-use Rattle.std.specs.Str.{bytes_eq, byte}
+use Rattle.std.specs.Str.{byte}
+use Rattle.gv_base.specs.Order.{has_text}
 use Rattle.gvis.specs.declared.facts.Level.{Level}
 use Rattle.gvis.specs.declared.facts.Level.TheVariants.{Stable, Testing}
 use Rattle.gvis.specs.declared.facts.Pkg.{Pkg}
 use Rattle.gvis.specs.declared.facts.Profile.{Profile}
-
--- whether the text is one of the texts
-abbrev pub has_text : List (List ℕ) → List ℕ → Bool
-has_text texts text = list_any (bytes_eq text) texts
 
 -- the keyword that accepts a package at testing
 abbrev pub testing : List ℕ → List ℕ

@@ -25,6 +25,7 @@ mod report;
 mod running;
 mod scanning;
 mod telling;
+mod values;
 mod words;
 
 pub use desc::{DescLine, DescLines};
