@@ -10,3 +10,5 @@ pub mod Listings
 pub mod Loads
 pub mod Gains
 pub mod Scanned
+pub mod DescKeys
+mod ReadingExamples

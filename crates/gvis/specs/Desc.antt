@@ -1,6 +1,9 @@
 -- The lines of `profiles/profiles.desc` that count (PMS chapter 4: arch, path under `profiles`, status).
-use Rattle.std.specs.Prelude.{ℕ, ◌&&◌, Bool, false, if◌then◌else◌, List, [], ◌∷◌, ◌++◌, Option, Some, None, option_map, option_to_list, fold, codes}
+use Rattle.std.specs.Prelude.{◌≡◌, ℕ, map, ◌&&◌, Bool, false, if◌then◌else◌, List, [], ◌∷◌, ◌++◌, Option, Some, None, option_map, option_to_list, fold, codes}
+use Rattle.std.specs.FinMap.{get}
+use Rattle.std.specs.Option.{is_some}
 use Rattle.std.specs.List.{list_any}
+use Rattle.gv_base.specs.FileMap.{FileMap}
 use Rattle.std.specs.Str.{bytes_eq}
 use Rattle.gv_version.specs.Names.{is_keyword}
 use Rattle.gvis.specs.declared.facts.Status.{Status}
@@ -15,11 +18,22 @@ status_word word =
     else (if bytes_eq word (codes "dev") then Some Dev
     else (if bytes_eq word (codes "exp") then Some Exp else None))
 
+-- what tells a line from others: its arch and its path. Words have no blank, so that equal keys are equal words
+abbrev pub key_of : List ℕ → List ℕ → List ℕ
+key_of arch path = arch ++ 32 ∷ path
+
+abbrev pub line_key : DescLine → List ℕ
+line_key line = key_of line.arch line.path
+
 -- whether a line before that counts has these first two words
 abbrev pub repeats : List DescLine → List (List ℕ) → Bool
 repeats lines [] = false
 repeats lines (arch ∷ []) = false
-repeats lines (arch ∷ path ∷ words) = list_any (λ l. bytes_eq l.arch arch && bytes_eq l.path path) lines
+repeats lines (arch ∷ path ∷ words) = list_any (bytes_eq (key_of arch path)) (map line_key lines)
+
+-- the keys of these lines are kept
+unfoldable pub Keeps : FileMap → List DescLine → Type 0
+Keeps keys lines = (key : List ℕ) → is_some (get keys key) ≡ list_any (bytes_eq key) (map line_key lines)
 
 abbrev pub described : ℕ → List ℕ → List ℕ → Status → DescLine
 described number arch path status = record { line = number; arch = arch; path = path; status = status }

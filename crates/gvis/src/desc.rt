@@ -1,16 +1,16 @@
 //! The lines of `profiles/profiles.desc` that count, each with its number.
 //!
-//! Reading costs O(bytes), and for each good line a look at the good lines before it.
-ghost use Rattle.std.specs.Prelude.{◌≡◌, ◌+◌, ◌++◌, ◌∷◌, ◌&&◌, [], IfOk, OnOk, OnErr};
+//! Reading costs O(bytes), and for each line a look-up in an ordered map of those before it.
+ghost use Rattle.std.specs.Prelude.{◌≡◌, ◌+◌, ◌++◌, ◌∷◌, ◌&&◌, [], map, IfOk, OnOk, OnErr};
 ghost use Rattle.std.specs.List.{list_any};
 ghost use Rattle.std.specs.Str.{bytes_eq};
 ghost use Rattle.gvis.specs.Lines.{line_words};
-ghost use Rattle.gvis.specs.Desc.{status_word, repeats, good_line, with_line, counted_lines};
+ghost use Rattle.gvis.specs.Desc.{Keeps, status_word, key_of, line_key, repeats, good_line, with_line, counted_lines};
 
 use crate::Status;
 use crate::lines::line_words;
 use crate::paths::is_relative;
-use gv_base::{Cut, NoMemory, Text, Texts, next_piece};
+use gv_base::{Cut, Files, NoMemory, Text, Texts, next_piece};
 use gv_version::is_keyword;
 use std::alloc::Global;
 use std::marker::Model;
@@ -81,26 +81,55 @@ fn status_word(word: &[u8]) -> Option<Status>
     }
 }
 
-// Whether a line has these first two words.
-fn has_line(lines: &[DescLine], arch: &[u8], path: &[u8]) -> bool
-    ensures { result ≡ list_any (λ l. bytes_eq l.arch arch.now && bytes_eq l.path path.now) lines.now }
-{
-    for line in lines {
-        if line.arch.bytes() == arch && line.path.bytes() == path {
-            return true;
-        }
-    }
-    false
+// The lines that count so far, and their keys.
+#[derive(Drop)]
+struct Counted {
+    lines: DescLines,
+    keys: Files,
 }
 
-fn repeats(lines: &DescLines, words: &[Text]) -> bool
-    ensures { result ≡ repeats lines.now words.now }
+fn key_of(alloc: Global, arch: &Text, path: &Text) -> Result<Text, NoMemory>
+    ensures { IfOk result (λ key. key ≡ key_of arch.now path.now) }
+{
+    let mut key = arch.copy(alloc)?;
+    key.append(b" ")?;
+    key.append(path.bytes())?;
+    Ok(key)
+}
+
+#[tactic(auto, using(crate::proofs::DescKeys::has_key))]
+fn has_key(counted: &Counted, key: &[u8]) -> bool
+    requires { Keeps counted.now.keys counted.now.lines }
+    ensures { result ≡ list_any (bytes_eq key.now) (map line_key counted.now.lines) }
+{
+    counted.keys.get(key).is_some()
+}
+
+// Whether a line that counts has these first two words.
+fn repeats(alloc: Global, counted: &Counted, words: &[Text]) -> Result<bool, NoMemory>
+    requires { Keeps counted.now.keys counted.now.lines }
+    ensures { IfOk result (λ again. again ≡ repeats counted.now.lines words.now) }
 {
     match words {
-        [] => false,
-        [_] => false,
-        [arch, path, ..] => has_line(lines.items(), arch.bytes(), path.bytes()),
+        [] => Ok(false),
+        [_] => Ok(false),
+        [arch, path, ..] => {
+            let key = key_of(alloc, arch, path)?;
+            Ok(has_key(counted, key.bytes()))
+        }
     }
+}
+
+// Adds a line, with its key.
+fn keep(alloc: Global, counted: &mut Counted, line: DescLine) -> Result<(), NoMemory>
+    requires { Keeps counted.old.keys counted.old.lines }
+    ensures lines { OnOk result (counted.new.lines ≡ counted.old.lines ++ line ∷ []) }
+    ensures keeps { OnOk result (Keeps counted.new.keys counted.new.lines) }
+{
+    let key = key_of(alloc, &line.arch, &line.path)?;
+    counted.keys.put(key.bytes(), b"")?;
+    counted.lines.add(line)?;
+    Ok(())
 }
 
 fn good_line(alloc: Global, line: u32, words: &[Text]) -> Result<Option<DescLine>, NoMemory>
@@ -128,32 +157,40 @@ fn good_line(alloc: Global, line: u32, words: &[Text]) -> Result<Option<DescLine
 }
 
 // Adds the line, where it is good and no repeat.
-fn add_line(alloc: Global, lines: &mut DescLines, line: u32, text: &[u8]) -> Result<(), NoMemory>
-    ensures { OnOk result (lines.new ≡ with_line lines.old line (line_words text.now)) }
+fn add_line(alloc: Global, counted: &mut Counted, line: u32, text: &[u8]) -> Result<(), NoMemory>
+    requires { Keeps counted.old.keys counted.old.lines }
+    ensures lines { OnOk result (counted.new.lines ≡ with_line counted.old.lines line (line_words text.now)) }
+    ensures keeps { OnOk result (Keeps counted.new.keys counted.new.lines) }
 {
     let words = line_words(alloc, text)?;
-    if repeats(lines, words.items()) {
+    if repeats(alloc, counted, words.items())? {
         return Ok(());
     }
     match good_line(alloc, line, words.items())? {
-        Some(good) => lines.add(good)?,
-        None => {}
+        Some(good) => {
+            keep(alloc, counted, good)?;
+            Ok(())
+        }
+        None => Ok(()),
     }
-    Ok(())
 }
 
 /// The lines that count: the good ones, but for those whose arch and path stand in an earlier good one.
+#[tactic(auto, using(crate::proofs::DescKeys::none_kept))]
 pub(crate) fn counted_lines(alloc: Global, bytes: &[u8]) -> Result<DescLines, NoMemory>
     ensures { IfOk result (λ lines. lines ≡ counted_lines bytes.now) }
 {
-    let mut lines = DescLines::new(alloc);
+    let mut counted = Counted {
+        lines: DescLines::new(alloc),
+        keys: Files::new(alloc),
+    };
     let mut rest = Some(bytes);
     let mut number = 1u32;
     while let Some(piece) = next_piece(&mut rest, Cut::Lines) {
-        add_line(alloc, &mut lines, number, piece)?;
+        add_line(alloc, &mut counted, number, piece)?;
         number = next_number(number)?;
     }
-    Ok(lines)
+    Ok(counted.lines)
 }
 
 // A list has room for fewer than 2^32 items; a longer one finds no memory.

@@ -89,3 +89,6 @@ fn run_counted<L: Ledger>(rt: HostRuntime, blank: Blank) -> u8
 fn main(rt: HostRuntime) -> ExitCode {
     ExitCode::from(run_counted::<Brand>(rt, Blank::new(2)))
 }
+
+#[cfg(test)]
+mod tests;
