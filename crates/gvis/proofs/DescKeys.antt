@@ -18,9 +18,13 @@ pub none_kept : Keeps empty []
 unfolding Keeps
 none_kept = λ key. ap is_some (get-empty byte_cmp key)
 
-pub has_key : (keys : FileMap) (lines : List DescLine) (key : List ℕ) → Keeps keys lines → is_some (get keys key) ≡ list_any (bytes_eq key) (map line_key lines)
+pub there : (keys : FileMap) (lines : List DescLine) (key bytes : List ℕ) → Keeps keys lines → Some bytes ≡ get keys key → true ≡ list_any (bytes_eq key) (map line_key lines)
 unfolding Keeps
-has_key keys lines key keeps = keeps key
+there keys lines key bytes keeps at = ap is_some at ∙ keeps key
+
+pub not_there : (keys : FileMap) (lines : List DescLine) (key : List ℕ) → Keeps keys lines → None ≡ get keys key → false ≡ list_any (bytes_eq key) (map line_key lines)
+unfolding Keeps
+not_there keys lines key keeps at = ap is_some at ∙ keeps key
 
 either : (hit : Bool) (bytes : List ℕ) (there : Option (List ℕ)) (before : Bool) → is_some there ≡ before → is_some (cond hit (Some bytes) there) ≡ (before || (hit || false))
 either true bytes there true is = refl

@@ -1,4 +1,7 @@
+pub mod AssignmentLemmas
 mod Examples
+pub mod FirstFailing
+pub mod IndexLemmas
 mod Worlds
 pub mod Numbers
 pub mod Passing
@@ -12,3 +15,4 @@ pub mod Gains
 pub mod Scanned
 pub mod DescKeys
 mod ReadingExamples
+pub mod WitnessLemmas

@@ -11,6 +11,8 @@ pub mod EntryRead
 pub mod EntryValues
 pub mod Holds
 pub mod Known
+pub mod Index
+pub mod Judged
 pub mod Least
 pub mod Lines
 pub mod LoadCauses
@@ -20,6 +22,7 @@ pub mod ProfileFiles
 pub mod Queries
 pub mod Reading
 pub mod RepoReports
+pub mod ReportLaws
 pub mod ReportOrder
 pub mod ReportText
 pub mod Repository

@@ -1,5 +1,5 @@
 -- The queries of a case, one for each class of its EAPI, and what each of them asks.
-use Rattle.std.specs.Prelude.{ℕ, Bool, nat_lt, List, [], ◌∷◌, Option, filter, length}
+use Rattle.std.specs.Prelude.{ℕ, Bool, ◌&&◌, nat_lt, List, [], ◌∷◌, Option, length}
 use Rattle.std.specs.List.{list_any}
 use Rattle.gv_expr.specs.Dep.{Dep, deps}
 use Rattle.gv_expr.specs.Mentioned.{dep_mentions}
@@ -37,9 +37,9 @@ asks c class bits = is_failing c.parent (class_of c class) (flags_of c class) bi
 abbrev pub least_asked : Case → Class → Option (List Bool)
 least_asked c class = least (asks c class) (length (flags_of c class))
 
--- Queries of too many flags to try all their assignments.
+-- a query of too many flags to try all their assignments
 abbrev pub is_wide : Case → Class → Bool
-is_wide c class = nat_lt 12 (length (flags_of c class))
+is_wide c class = has_query c class && nat_lt 12 (length (flags_of c class))
 
 abbrev pub has_wide : Case → Bool
-has_wide c = list_any (is_wide c) (filter (has_query c) classes)
+has_wide c = list_any (is_wide c) classes

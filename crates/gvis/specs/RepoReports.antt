@@ -1,5 +1,5 @@
 -- The reports of a repository, and the text of a scan.
-use Rattle.std.specs.Prelude.{ℕ, Bool, true, false, List, [], ◌∷◌, ◌++◌, Option, None, Some, option_map, map, filter, flat_map, filter_map, unwrap_or, fold, codes}
+use Rattle.std.specs.Prelude.{ℕ, Bool, true, false, List, [], ◌∷◌, ◌++◌, Option, None, option_map, slice_get, if◌then◌else◌, map, filter, flat_map, filter_map, unwrap_or, fold, codes}
 use Rattle.std.specs.BTreeSet.{insert_key}
 use Rattle.gv_expr.specs.DepGrammar.{item_text}
 use Rattle.gv_base.specs.Words.{joined}
@@ -49,27 +49,24 @@ nonsolvable c class bits = record {
   detail = unwrap_or (option_map item_text (first_failing c.parent (class_of c class) (assignment (flags_of c class) bits))) [];
 }
 
+-- of a class that the EAPI has, under the least failing assignment
 abbrev pub query_report : Case → Class → Option Report
-query_report c class = option_map (nonsolvable c class) (least_asked c class)
+query_report c class = if has_query c class then option_map (nonsolvable c class) (least_asked c class) else None
 
 abbrev pub case_reports : Case → List Report
-case_reports c = filter_map (query_report c) (filter (has_query c) classes)
+case_reports c = filter_map (query_report c) classes
 
--- all reports, in some order
+-- all reports, by package as they were read
 abbrev pub reports : Repo → List Report
 reports repo = flat_map case_reports (cases repo)
 
 abbrev pub scan_text : Repo → List ℕ
 scan_text repo = report_text (ordered (reports repo))
 
--- The packages that have a query of too many flags.
+-- the packages that have a query of too many flags
 abbrev pub wide_subjects : Repo → List Subject
 wide_subjects repo = map (λ c. subject_of c.member.pkg) (filter has_wide (cases repo))
 
-abbrev pub first_of : List Subject → Option Subject
-first_of [] = None
-first_of (s ∷ ss) = Some s
-
 -- CATEGORY/PF of the first of them in package order: queries are ordered by package before all else
 abbrev pub first_wide : Repo → Option (List ℕ)
-first_wide repo = option_map subject_text (first_of (fold (insert_key subject_cmp) [] (wide_subjects repo)))
+first_wide repo = option_map subject_text (slice_get (fold (insert_key subject_cmp) [] (wide_subjects repo)) 0)

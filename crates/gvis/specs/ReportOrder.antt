@@ -2,7 +2,7 @@
 use Rattle.std.specs.Prelude.{ℕ, List, [], fold}
 use Rattle.std.specs.BTreeSet.{insert_key}
 use Rattle.std.specs.declared.cmp.Ordering.{Ordering}
-use Rattle.std.specs.Ordering.{nat_cmp, ordering_then}
+use Rattle.std.specs.Ordering.{nat_cmp, on, then_cmp}
 use Rattle.gv_base.specs.Order.{byte_cmp}
 use Rattle.gvis.specs.declared.facts.Class.{Class}
 use Rattle.gvis.specs.declared.facts.Class.TheVariants as classes
@@ -32,21 +32,25 @@ level_number Testing = 1
 
 -- category, name, version, PF
 abbrev pub subject_cmp : Subject → Subject → Ordering
-subject_cmp s t = ordering_then (byte_cmp s.category t.category) (ordering_then (byte_cmp s.name t.name)
-    (ordering_then (nat_cmp s.version t.version) (byte_cmp s.pf t.pf)))
+subject_cmp = then_cmp (on (λ s. s.category) byte_cmp) (then_cmp (on (λ s. s.name) byte_cmp)
+    (then_cmp (on (λ s. s.version) nat_cmp) (on (λ s. s.pf) byte_cmp)))
 
--- what the order says of contexts is the line; the rest follows from it in one repository
+-- arch, path, level
 abbrev pub context_cmp : ContextName → ContextName → Ordering
-context_cmp c d = ordering_then (byte_cmp c.arch d.arch) (ordering_then (byte_cmp c.path d.path) (nat_cmp (level_number c.level) (level_number d.level)))
+context_cmp = then_cmp (on (λ c. c.arch) byte_cmp) (then_cmp (on (λ c. c.path) byte_cmp) (on (λ c. level_number c.level) nat_cmp))
 
--- by subject, keyword, class, line of the profile list, detail; reports that still tie are told apart by what is left
+-- by detail; what is left tells apart only reports that no repository has together
+abbrev pub answer_cmp : Report → Report → Ordering
+answer_cmp = then_cmp (on (λ r. r.detail) byte_cmp) (then_cmp (on (λ r. r.witness) byte_cmp) (on (λ r. r.context) context_cmp))
+
+-- by keyword, class and line of the profile list, then by detail
+abbrev pub query_cmp : Report → Report → Ordering
+query_cmp = then_cmp (on (λ r. keyword_number r.keyword) nat_cmp)
+    (then_cmp (on (λ r. class_number r.class) nat_cmp) (then_cmp (on (λ r. r.context.line) nat_cmp) answer_cmp))
+
+-- by subject, keyword, class, line, detail
 abbrev pub report_cmp : Report → Report → Ordering
-report_cmp r s = ordering_then (subject_cmp r.subject s.subject)
-    (ordering_then (nat_cmp (keyword_number r.keyword) (keyword_number s.keyword))
-    (ordering_then (nat_cmp (class_number r.class) (class_number s.class))
-    (ordering_then (nat_cmp r.context.line s.context.line)
-    (ordering_then (byte_cmp r.detail s.detail)
-    (ordering_then (byte_cmp r.witness s.witness) (context_cmp r.context s.context))))))
+report_cmp = then_cmp (on (λ r. r.subject) subject_cmp) query_cmp
 
 -- in order, equal ones once
 abbrev pub ordered : List Report → List Report

@@ -27,10 +27,16 @@ context_text c = c.arch ++ (codes " " ++ (c.path ++ (codes " " ++ level_text c.l
 abbrev pub use_text : List ℕ → List ℕ
 use_text witness = codes "USE=\"" ++ (witness ++ codes "\"")
 
--- CATEGORY/PF: KEYWORD: CLASS: ARCH PATH LEVEL: USE="WITNESS": DETAIL
+-- CATEGORY/PF: KEYWORD: CLASS
+abbrev pub head_text : Report → List ℕ
+head_text r = subject_text r.subject ++ (codes ": " ++ (keyword_text r.keyword ++ (codes ": " ++ class_text r.class)))
+
+-- ARCH PATH LEVEL: USE="WITNESS": DETAIL
+abbrev pub tail_text : Report → List ℕ
+tail_text r = context_text r.context ++ (codes ": " ++ (use_text r.witness ++ (codes ": " ++ r.detail)))
+
 abbrev pub report_line : Report → List ℕ
-report_line r = subject_text r.subject ++ (codes ": " ++ (keyword_text r.keyword ++ (codes ": " ++ (class_text r.class
-    ++ (codes ": " ++ (context_text r.context ++ (codes ": " ++ (use_text r.witness ++ (codes ": " ++ (r.detail ++ codes "\n"))))))))))
+report_line r = head_text r ++ (codes ": " ++ (tail_text r ++ codes "\n"))
 
 abbrev pub report_text : List Report → List ℕ
 report_text rs = flat_map report_line rs

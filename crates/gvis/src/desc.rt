@@ -97,12 +97,15 @@ fn key_of(alloc: Global, arch: &Text, path: &Text) -> Result<Text, NoMemory>
     Ok(key)
 }
 
-#[tactic(auto, using(crate::proofs::DescKeys::has_key))]
+#[tactic(auto, using(crate::proofs::DescKeys::there, crate::proofs::DescKeys::not_there))]
 fn has_key(counted: &Counted, key: &[u8]) -> bool
     requires { Keeps counted.now.keys counted.now.lines }
     ensures { result ≡ list_any (bytes_eq key.now) (map line_key counted.now.lines) }
 {
-    counted.keys.get(key).is_some()
+    match counted.keys.get(key) {
+        Some(_) => true,
+        None => false,
+    }
 }
 
 // Whether a line that counts has these first two words.

@@ -3,14 +3,24 @@
 
 ghost use Rattle.std.specs.Prelude.{◌≡◌};
 
+mod entry;
+mod facts;
+mod flags;
+mod holds;
+mod index;
+mod judged;
+mod judging;
+mod least;
+mod queries;
+mod report;
+mod reporting;
+mod values;
+
 mod desc;
 mod directories;
 mod entries;
-mod entry;
 mod entry_names;
-mod facts;
 mod faults;
-mod judging;
 mod layout;
 mod lines;
 mod loading;
@@ -21,11 +31,9 @@ mod profiles;
 mod reader;
 mod real;
 mod refusal;
-mod report;
 mod running;
 mod scanning;
 mod telling;
-mod values;
 mod words;
 
 pub use desc::{DescLine, DescLines};

@@ -1,0 +1,185 @@
+//! The reports of a judged package: for each class of its EAPI that fails, the least assignment under which it does.
+ghost use Rattle.std.specs.Prelude.{◌≡◌, ◌++◌, [], codes, if◌then◌else◌, option_map, unwrap_or, fold, filter_map, IfOk, OnOk};
+ghost use Rattle.std.specs.BTreeSet.{insert_key};
+ghost use Rattle.gv_base.specs.Words.{joined};
+ghost use Rattle.gv_expr.specs.DepGrammar.{item_text};
+ghost use Rattle.gvis.specs.Allowed.{assignment, first_failing};
+ghost use Rattle.gvis.specs.Judged.{case_of, IsIndexed};
+ghost use Rattle.gvis.specs.Queries.{flags_of};
+ghost use Rattle.gvis.specs.ReportOrder.{report_cmp};
+ghost use Rattle.gvis.specs.RepoReports.{case_reports, context_of, nonsolvable, query_keyword, query_report, subject_of, witness_words};
+
+use crate::entry::has_class;
+use crate::holds::{Assignment, first_failing};
+use crate::judged::Judged;
+use crate::least::least_failing;
+use crate::queries::{class_in, classes, flags_of};
+use crate::report::{ContextName, Keyword, Report, Subject};
+use crate::{Class, Pkg, Status};
+use gv_base::{NoMemory, Text, Texts};
+use gv_expr::{DepExpr, print_item};
+use std::alloc::Global;
+use std::collections::BTreeSet;
+
+/// The package as the subject of a report.
+pub fn subject_of(alloc: Global, pkg: &Pkg) -> Result<Subject, NoMemory>
+    ensures { IfOk result (λ subject. subject ≡ subject_of pkg.now) }
+{
+    Ok(Subject {
+        category: pkg.category.copy(alloc)?,
+        name: pkg.name.copy(alloc)?,
+        version: pkg.version,
+        pf: pkg.pf.copy(alloc)?,
+    })
+}
+
+fn context_of(alloc: Global, judged: &Judged<'_>) -> Result<ContextName, NoMemory>
+    ensures { IfOk result (λ context. context ≡ context_of (case_of judged.now).parent) }
+{
+    Ok(ContextName {
+        line: judged.profile.line,
+        arch: judged.profile.arch.copy(alloc)?,
+        path: judged.profile.path.copy(alloc)?,
+        level: judged.level,
+    })
+}
+
+fn query_keyword(status: Status) -> Keyword
+    ensures { result ≡ query_keyword status }
+{
+    match status {
+        Status::Stable => Keyword::NonsolvableDepsInStable,
+        Status::Dev => Keyword::NonsolvableDepsInDev,
+        Status::Exp => Keyword::NonsolvableDepsInExp,
+    }
+}
+
+// A flag, with `-` before it where it is off.
+fn witness_word(alloc: Global, flag: &Text, on: bool) -> Result<Text, NoMemory>
+    ensures { IfOk result (λ word. word ≡ (if on then flag.now else codes "-" ++ flag.now)) }
+{
+    if on {
+        return flag.copy(alloc);
+    }
+    let mut word = Text::of(alloc, b"-")?;
+    word.append(flag.bytes())?;
+    Ok(word)
+}
+
+#[tactic(auto, using(crate::proofs::WitnessLemmas::next_word, crate::proofs::WitnessLemmas::no_words))]
+fn witness_words(alloc: Global, flags: &[Text], bits: &[bool]) -> Result<Texts, NoMemory>
+    ensures { IfOk result (λ words. words ≡ witness_words flags.now bits.now) }
+{
+    let mut words = Texts::new(alloc);
+    for (i, flag) in flags.iter().enumerate() {
+        if i >= bits.len() {
+            return Ok(words);
+        }
+        words.add(witness_word(alloc, flag, bits[i])?)?;
+    }
+    Ok(words)
+}
+
+fn witness_of(alloc: Global, flags: &[Text], bits: &[bool]) -> Result<Text, NoMemory>
+    ensures { IfOk result (λ text. text ≡ joined (witness_words flags.now bits.now)) }
+{
+    let words = witness_words(alloc, flags, bits)?;
+    words.joined(alloc, b' ')
+}
+
+// The first top item of the class that doesn't hold. An item's number fits 32 bits in every class that is read; where
+// one doesn't, memory is said to be wanting.
+fn detail_of(
+    alloc: Global,
+    judged: &Judged<'_>,
+    class: &DepExpr,
+    on: &Assignment<'_>,
+) -> Result<Text, NoMemory>
+    requires { IsIndexed judged.now }
+    ensures { IfOk result (λ text. text ≡ unwrap_or (option_map item_text (first_failing (case_of judged.now).parent class.now (assignment on.now.flags.now on.now.bits.now))) []) }
+{
+    match first_failing(alloc, judged, class, on)? {
+        Some(n) => match u32::try_from(n) {
+            Ok(n) => print_item(alloc, class, n),
+            Err(_) => Err(NoMemory),
+        },
+        None => Text::of(alloc, b""),
+    }
+}
+
+fn nonsolvable(
+    alloc: Global,
+    judged: &Judged<'_>,
+    class: Class,
+    flags: &Texts,
+    bits: &[bool],
+) -> Result<Report, NoMemory>
+    requires indexed { IsIndexed judged.now }
+    requires flags { flags.now ≡ flags_of (case_of judged.now) class }
+    ensures { IfOk result (λ report. report ≡ nonsolvable (case_of judged.now) class bits.now) }
+{
+    let on = Assignment {
+        flags: flags.items(),
+        bits,
+    };
+    Ok(Report {
+        subject: subject_of(alloc, &judged.member.pkg)?,
+        keyword: query_keyword(judged.profile.status),
+        class,
+        context: context_of(alloc, judged)?,
+        witness: witness_of(alloc, flags.items(), bits)?,
+        detail: detail_of(alloc, judged, class_in(&judged.member.body, class), &on)?,
+    })
+}
+
+fn query_report(
+    alloc: Global,
+    judged: &Judged<'_>,
+    class: Class,
+) -> Result<Option<Report>, NoMemory>
+    requires { IsIndexed judged.now }
+    ensures { IfOk result (λ report. report ≡ query_report (case_of judged.now) class) }
+{
+    if !has_class(judged.member.pkg.eapi, class) {
+        return Ok(None);
+    }
+    let flags = flags_of(alloc, judged, class)?;
+    match least_failing(
+        alloc,
+        judged,
+        class_in(&judged.member.body, class),
+        flags.items(),
+    )? {
+        Some(bits) => Ok(Some(nonsolvable(alloc, judged, class, &flags, &bits)?)),
+        None => Ok(None),
+    }
+}
+
+fn add_reports(
+    alloc: Global,
+    judged: &Judged<'_>,
+    classes: &[Class],
+    reports: &mut BTreeSet<Report>,
+) -> Result<(), NoMemory>
+    requires { IsIndexed judged.now }
+    ensures { OnOk result (reports.new.keys ≡ fold (insert_key report_cmp) reports.old.keys (filter_map (query_report (case_of judged.now)) classes.now)) }
+{
+    for class in classes {
+        if let Some(report) = query_report(alloc, judged, *class)? {
+            reports.insert(report)?;
+        }
+    }
+    Ok(())
+}
+
+/// Adds the reports of a judged package.
+pub fn add_case_reports(
+    alloc: Global,
+    judged: &Judged<'_>,
+    reports: &mut BTreeSet<Report>,
+) -> Result<(), NoMemory>
+    requires { IsIndexed judged.now }
+    ensures { OnOk result (reports.new.keys ≡ fold (insert_key report_cmp) reports.old.keys (case_reports (case_of judged.now))) }
+{
+    add_reports(alloc, judged, &classes(), reports)
+}
