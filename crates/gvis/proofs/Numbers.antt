@@ -1,6 +1,5 @@
 -- A number of few digits is small.
 use Rattle.std.proofs.Common.{◌≡◌, ℕ, true, List, [], ◌∷◌, length, drop, get_or, ◌+◌, ◌*◌, ◌-◌, ◌<◌, ◌≤◌, zero, suc, refl, sym, ap, subst, arith, add-one, add-zero}
-
 use Rattle.std.specs.List.{list_all}
 use Rattle.gvis.specs.EntryNames.{is_digit}
 

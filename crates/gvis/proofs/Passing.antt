@@ -58,7 +58,7 @@ module _ {X : Type 0} where
       IsTold told → first_of (look_in told) (all behind) ≡ first_of (look_in told) (all xs)
   next_passed told one all xs rest behind x law is so_far pass t =
       let here : first_of (look_in told) (all rest) ≡ or_else (first_of (look_in told) (one x)) (first_of (look_in told) (all behind)) =
-          ap (λ r. first_of (look_in told) (all r)) is ∙ ap (first_of (look_in told)) (law x behind) ∙ first-append (look_in told) (one x) (all behind) in
+      ap (λ r. first_of (look_in told) (all r)) is ∙ ap (first_of (look_in told)) (law x behind) ∙ first-append (look_in told) (one x) (all behind) in
       sym (here ∙ ap (λ r. or_else r (first_of (look_in told) (all behind))) (pass t)) ∙ so_far t
 
   pub here_refused : (told : Option FileMap) (before now : ℕ) (one : X → List Step) (all : List X → List Step) (xs rest behind : List X) (x : X) (fault : LoadFault) →
@@ -67,8 +67,8 @@ module _ {X : Type 0} where
       Cause told before now (first_of (look_in told) (all xs)) fault
   here_refused told before now one all xs rest behind x fault law is so_far cause =
       same_cause told before now _ _ fault (λ t f at.
-          sym (so_far t) ∙ ap (λ r. first_of (look_in told) (all r)) is ∙ ap (first_of (look_in told)) (law x behind) ∙ first-append (look_in told) (one x) (all behind)
-          ∙ ap (λ r. or_else r (first_of (look_in told) (all behind))) at) cause
+      sym (so_far t) ∙ ap (λ r. first_of (look_in told) (all r)) is ∙ ap (first_of (look_in told)) (law x behind) ∙ first-append (look_in told) (one x) (all behind)
+      ∙ ap (λ r. or_else r (first_of (look_in told) (all behind))) at) cause
 
 module _ {X Y : Type 0} where
   pub more_values : (told : Option FileMap) (one : X → List Y) (all : List X → List Y) (xs rest behind : List X) (x : X) (old new whole : List Y) →

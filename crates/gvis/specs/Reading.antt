@@ -31,8 +31,8 @@ layout = record {
   before = codes "parent" ∷ codes "make.defaults" ∷ [];
   use_mask = codes "use.mask";
   behind =
-    codes "use.force" ∷ codes "use.stable.mask" ∷ codes "use.stable.force" ∷ codes "package.mask"
-    ∷ codes "package.use.mask" ∷ codes "package.use.force" ∷ codes "package.use.stable.mask" ∷ codes "package.use.stable.force" ∷ [];
+      codes "use.force" ∷ codes "use.stable.mask" ∷ codes "use.stable.force" ∷ codes "package.mask"
+      ∷ codes "package.use.mask" ∷ codes "package.use.force" ∷ codes "package.use.stable.mask" ∷ codes "package.use.stable.force" ∷ [];
 }
 
 abbrev pub entry_path : List ℕ → List ℕ → List ℕ
@@ -41,11 +41,11 @@ entry_path category name = within (within layout.cache category) name
 -- ---- one step, and why it is refused
 
 pub data Step : Type 0 where
-  need : (path : List ℕ) → Step                          -- it has to be a file
-  read : (path : List ℕ) → Step                          -- anything may stand there
-  plain : (path : List ℕ) → Step                         -- no folder may stand there
-  absent : (path : List ℕ) → Step                        -- nothing may stand there
-  entry : (category : List ℕ) → (name : List ℕ) → Step   -- a listed name of the cache
+  need : (path : List ℕ) → Step  -- it has to be a file
+  read : (path : List ℕ) → Step  -- anything may stand there
+  plain : (path : List ℕ) → Step  -- no folder may stand there
+  absent : (path : List ℕ) → Step  -- nothing may stand there
+  entry : (category : List ℕ) → (name : List ℕ) → Step  -- a listed name of the cache
 
 abbrev pub Refusal : Type 0
 Refusal = Option LoadFault

@@ -97,7 +97,6 @@ fn key_of(alloc: Global, arch: &Text, path: &Text) -> Result<Text, NoMemory>
     Ok(key)
 }
 
-#[tactic(auto, using(crate::proofs::DescKeys::there, crate::proofs::DescKeys::not_there))]
 fn has_key(counted: &Counted, key: &[u8]) -> bool
     requires { Keeps counted.now.keys counted.now.lines }
     ensures { result ≡ list_any (bytes_eq key.now) (map line_key counted.now.lines) }

@@ -47,7 +47,9 @@ fn is_number(bytes: &[u8]) -> bool
 {
     match bytes {
         [] => false,
-        [first, rest @ ..] => { are_digits(bytes) && bytes.len() <= 18 && (*first != b'0' || rest.len() < 1) }
+        [first, rest @ ..] => {
+            are_digits(bytes) && bytes.len() <= 18 && (*first != b'0' || rest.len() < 1)
+        }
     }
 }
 

@@ -83,8 +83,9 @@ fn read_both<T: Tree>(
     requires knows { Knows (T.files tree.old) reader.old }
     requires names { names.now ≡ layout }
     ensures repo { IfOk result (λ repo. IsTold (T.files tree.old) → repo ≡ record {
-        members = flat_map (members_of (look_in (T.files tree.old))) lists.now.categories;
-        profiles = filter_map (profile_of (look_in (T.files tree.old))) lists.now.lines }) }
+      members = flat_map (members_of (look_in (T.files tree.old))) lists.now.categories;
+      profiles = filter_map (profile_of (look_in (T.files tree.old))) lists.now.lines;
+    }) }
     ensures passed { OnOk result (Passes (T.files tree.old) (first_of (look_in (T.files tree.old))
         (flat_map (line_steps (look_in (T.files tree.old))) lists.now.lines ++ flat_map (category_steps (look_in (T.files tree.old))) lists.now.categories))) }
     ensures cause { IfErr result (Cause (T.files tree.old) (T.faults tree.old) (T.faults tree.new) (first_of (look_in (T.files tree.old))

@@ -3,37 +3,36 @@
 
 ghost use Rattle.std.specs.Prelude.{◌≡◌};
 
+mod desc;
+mod directories;
+mod entries;
 mod entry;
+mod entry_names;
 mod facts;
+mod faults;
 mod flags;
 mod holds;
 mod index;
 mod judged;
 mod judging;
-mod least;
-mod queries;
-mod report;
-mod reporting;
-mod values;
-
-mod desc;
-mod directories;
-mod entries;
-mod entry_names;
-mod faults;
 mod layout;
+mod least;
 mod lines;
 mod loading;
 mod output;
 mod paths;
 mod profile_files;
 mod profiles;
+mod queries;
 mod reader;
 mod real;
 mod refusal;
+mod report;
+mod reporting;
 mod running;
 mod scanning;
 mod telling;
+mod values;
 mod words;
 
 pub use desc::{DescLine, DescLines};
@@ -43,14 +42,13 @@ pub use facts::{
     Rules, Status,
 };
 pub use faults::LoadFault;
-pub use loading::load;
-pub use judging::{JudgeFault, report_text};
-pub use refusal::Refusal;
-pub use running::run;
-pub use report::{ContextName, Keyword, Report, Subject};
-
 use gv_base::{Ledger, NoMemory, Steps, Text, Texts};
+pub use judging::{JudgeFault, report_text};
+pub use loading::load;
 use real::{FsStore, FsTree, StdSink, StdSource};
+pub use refusal::Refusal;
+pub use report::{ContextName, Keyword, Report, Subject};
+pub use running::run;
 use std::alloc::Global;
 use std::env;
 use std::env::Env;

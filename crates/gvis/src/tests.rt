@@ -26,23 +26,32 @@ struct Case<'a> {
 }
 
 const SCAN: &[&[u8]] = &[b"scan", b"R", b"--certs", b"C"];
+
 const DESC: (&[u8], &[u8]) = (b"profiles/profiles.desc", b"amd64 base stable\n");
+
 const CATEGORIES: (&[u8], &[u8]) = (b"profiles/categories", b"app\nx\n");
+
 const EAPI: (&[u8], &[u8]) = (b"profiles/base/eapi", b"8\n");
+
 const MISSING: (&[u8], &[u8]) = (
     b"metadata/md5-cache/app/p-1",
     b"EAPI=8\nSLOT=0\nKEYWORDS=amd64\nRDEPEND=x/y\n",
 );
+
 const ASKING: (&[u8], &[u8]) = (
     b"metadata/md5-cache/app/p-1",
     b"EAPI=8\nSLOT=0\nKEYWORDS=amd64\nIUSE=a\nRDEPEND=a? ( x/y )\n",
 );
+
 const TESTING: (&[u8], &[u8]) = (
     b"metadata/md5-cache/x/y-1",
     b"EAPI=8\nSLOT=0\nKEYWORDS=~amd64\n",
 );
+
 const MASK: (&[u8], &[u8]) = (b"profiles/base/use.mask", b"a\n");
-const MISSING_LINE: &[u8] = b"app/p-1: NonsolvableDepsInStable: RDEPEND: amd64 base stable: USE=\"\": x/y\n";
+
+const MISSING_LINE: &[u8] =
+    b"app/p-1: NonsolvableDepsInStable: RDEPEND: amd64 base stable: USE=\"\": x/y\n";
 
 fn calls(alloc: Global, number: u32) -> Result<Calls, NoMemory> {
     let mut calls = Calls::new(alloc);
@@ -69,11 +78,7 @@ fn files(alloc: Global, items: &[(&[u8], &[u8])]) -> Result<Files, NoMemory> {
 }
 
 // The status, and what stands on out and on err.
-fn run_on<L: Ledger>(
-    alloc: Global,
-    blank: Blank,
-    case: &Case,
-) -> Result<(u8, Text, Text), NoMemory>
+fn run_on<L: Ledger>(alloc: Global, blank: Blank, case: &Case) -> Result<(u8, Text, Text), NoMemory>
     requires name { blank.name ≡ L.name }
     requires parts { blank.parts ≡ L.parts }
     requires two { blank.parts ≡ 2 }
@@ -109,7 +114,12 @@ fn expect(rt: &impl Abort, alloc: Global, case: &Case) {
     }
 }
 
-fn scan<'a>(files: &'a [(&'a [u8], &'a [u8])], status: u8, out: &'a [u8], err: &'a [u8]) -> Case<'a> {
+fn scan<'a>(
+    files: &'a [(&'a [u8], &'a [u8])],
+    status: u8,
+    out: &'a [u8],
+    err: &'a [u8],
+) -> Case<'a> {
     Case {
         words: SCAN,
         files,
@@ -149,7 +159,12 @@ fn prints_the_worked_reports(rt: HostRuntime) {
             b"app/p-1: NonsolvableDepsInStable: RDEPEND: amd64 base stable: USE=\"a\": a? ( x/y )\n",
             b"",
         ),
-        scan(&[DESC, CATEGORIES, EAPI, ASKING, TESTING, MASK], 0, b"", b""),
+        scan(
+            &[DESC, CATEGORIES, EAPI, ASKING, TESTING, MASK],
+            0,
+            b"",
+            b"",
+        ),
     ];
     for case in cases.iter() {
         expect(&rt, rt.alloc(), case);
@@ -176,18 +191,78 @@ fn refuses_at_the_first_place(rt: HostRuntime) {
         b"EAPI=8\nSLOT=0\nKEYWORDS=amd64\nIUSE=a b c d e f g h i j k l m\nRDEPEND=a? ( b? ( c? ( d? ( e? ( f? ( g? ( h? ( i? ( j? ( k? ( l? ( m? ( x/y ) ) ) ) ) ) ) ) ) ) ) ) )\n",
     );
     let cases: [Case; 12] = [
-        scan(&[], 6, b"", b"gvis: not a repository: profiles/profiles.desc\n"),
-        scan(&[DESC], 6, b"", b"gvis: not a repository: profiles/categories\n"),
-        scan(&[DESC, CATEGORIES, EAPI, REPO_MASK, PARENT], 9, b"", b"gvis: not built: profiles/package.mask\n"),
-        scan(&[DESC, CATEGORIES, EAPI, PARENT, MISSING], 9, b"", b"gvis: not built: profiles/base/parent\n"),
-        scan(&[DESC, CATEGORIES, EAPI, FOLDER], 9, b"", b"gvis: not built: profiles/base/use.mask\n"),
-        scan(&[DESC, CATEGORIES, EAPI, MANIFEST, REQUIRED], 9, b"", b"gvis: not built: metadata/md5-cache/app/Manifest.gz\n"),
-        scan(&[DESC, CATEGORIES, EAPI, BELOW, REQUIRED], 9, b"", b"gvis: not built: metadata/md5-cache/app/p-1\n"),
-        scan(&[DESC, CATEGORIES, EAPI, BELOW], 9, b"", b"gvis: not built: metadata/md5-cache/app/q\n"),
-        scan(&[DESC, CATEGORIES, EAPI, ANY], 9, b"", b"gvis: not built: metadata/md5-cache/app/p-1\n"),
-        scan(&[DESC, CATEGORIES, EAPI, WIDE], 9, b"", b"gvis: not built: app/p-1\n"),
-        scan(&[DESC, EAPI, (b"profiles/categories/x", b"")], 6, b"", b"gvis: not a repository: profiles/categories\n"),
-        scan(&[DESC, CATEGORIES, (b"profiles/base/eapi", b"9\n"), MISSING], 0, b"", b""),
+        scan(
+            &[],
+            6,
+            b"",
+            b"gvis: not a repository: profiles/profiles.desc\n",
+        ),
+        scan(
+            &[DESC],
+            6,
+            b"",
+            b"gvis: not a repository: profiles/categories\n",
+        ),
+        scan(
+            &[DESC, CATEGORIES, EAPI, REPO_MASK, PARENT],
+            9,
+            b"",
+            b"gvis: not built: profiles/package.mask\n",
+        ),
+        scan(
+            &[DESC, CATEGORIES, EAPI, PARENT, MISSING],
+            9,
+            b"",
+            b"gvis: not built: profiles/base/parent\n",
+        ),
+        scan(
+            &[DESC, CATEGORIES, EAPI, FOLDER],
+            9,
+            b"",
+            b"gvis: not built: profiles/base/use.mask\n",
+        ),
+        scan(
+            &[DESC, CATEGORIES, EAPI, MANIFEST, REQUIRED],
+            9,
+            b"",
+            b"gvis: not built: metadata/md5-cache/app/Manifest.gz\n",
+        ),
+        scan(
+            &[DESC, CATEGORIES, EAPI, BELOW, REQUIRED],
+            9,
+            b"",
+            b"gvis: not built: metadata/md5-cache/app/p-1\n",
+        ),
+        scan(
+            &[DESC, CATEGORIES, EAPI, BELOW],
+            9,
+            b"",
+            b"gvis: not built: metadata/md5-cache/app/q\n",
+        ),
+        scan(
+            &[DESC, CATEGORIES, EAPI, ANY],
+            9,
+            b"",
+            b"gvis: not built: metadata/md5-cache/app/p-1\n",
+        ),
+        scan(
+            &[DESC, CATEGORIES, EAPI, WIDE],
+            9,
+            b"",
+            b"gvis: not built: app/p-1\n",
+        ),
+        scan(
+            &[DESC, EAPI, (b"profiles/categories/x", b"")],
+            6,
+            b"",
+            b"gvis: not a repository: profiles/categories\n",
+        ),
+        scan(
+            &[DESC, CATEGORIES, (b"profiles/base/eapi", b"9\n"), MISSING],
+            0,
+            b"",
+            b"",
+        ),
     ];
     for case in cases.iter() {
         expect(&rt, rt.alloc(), case);
@@ -204,7 +279,16 @@ fn refuses_a_file_that_is_too_large(rt: HostRuntime) {
     let whole: (&[u8], &[u8]) = (b"profiles/categories", &large[1..]);
     let more: (&[u8], &[u8]) = (b"profiles/categories", &large);
     expect(&rt, rt.alloc(), &scan(&[DESC, whole, EAPI], 0, b"", b""));
-    expect(&rt, rt.alloc(), &scan(&[DESC, more, EAPI], 9, b"", b"gvis: not built: profiles/categories\n"));
+    expect(
+        &rt,
+        rt.alloc(),
+        &scan(
+            &[DESC, more, EAPI],
+            9,
+            b"",
+            b"gvis: not built: profiles/categories\n",
+        ),
+    );
 }
 
 #[test]
@@ -233,7 +317,10 @@ fn refuses_words_of_another_form(rt: HostRuntime) {
 #[test]
 fn names_the_call_of_the_tree_that_failed(rt: HostRuntime) {
     // Both lines name one directory, which is read once.
-    const TWO_LINES: (&[u8], &[u8]) = (b"profiles/profiles.desc", b"amd64 base stable\narm64 base dev\n");
+    const TWO_LINES: (&[u8], &[u8]) = (
+        b"profiles/profiles.desc",
+        b"amd64 base stable\narm64 base dev\n",
+    );
     let lines: [&[u8]; 20] = [
         b"gvis: fault: tree profiles/profiles.desc\n",
         b"gvis: fault: tree profiles/categories\n",
@@ -259,11 +346,21 @@ fn names_the_call_of_the_tree_that_failed(rt: HostRuntime) {
     let mut number = 0u32;
     for line in lines {
         number = number.saturating_add(1);
-        let mut case = scan(&[TWO_LINES, CATEGORIES, EAPI, MASK, ASKING, TESTING], 3, b"", line);
+        let mut case = scan(
+            &[TWO_LINES, CATEGORIES, EAPI, MASK, ASKING, TESTING],
+            3,
+            b"",
+            line,
+        );
         case.tree_fails = number;
         expect(&rt, rt.alloc(), &case);
     }
-    let mut case = scan(&[TWO_LINES, CATEGORIES, EAPI, MASK, ASKING, TESTING], 0, b"", b"");
+    let mut case = scan(
+        &[TWO_LINES, CATEGORIES, EAPI, MASK, ASKING, TESTING],
+        0,
+        b"",
+        b"",
+    );
     case.tree_fails = 21;
     expect(&rt, rt.alloc(), &case);
 }
