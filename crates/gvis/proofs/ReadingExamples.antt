@@ -1,0 +1,78 @@
+-- Lines, paths, names and small trees, by their computed values.
+use Rattle.std.proofs.Common.{◌≡◌, ℕ, List, [], ◌∷◌, ◌++◌, Bool, true, false, Some, None, refl}
+use Rattle.std.specs.Prelude.{Option, codes, if◌then◌else◌}
+use Rattle.std.specs.Str.{bytes_eq}
+use Rattle.gv_base.specs.declared.tree.Found.{Found}
+use Rattle.gv_base.specs.declared.tree.Found.TheVariants.{File, Dir, Absent}
+use Rattle.gvis.specs.declared.facts.Status.TheVariants.{Stable, Dev, Exp}
+use Rattle.gvis.specs.declared.faults.LoadFault.TheVariants.{NotARepository, NotBuilt}
+use Rattle.gvis.specs.Desc.{counted_lines}
+use Rattle.gvis.specs.EntryNames.{entry_name}
+use Rattle.gvis.specs.Lines.{line_words}
+use Rattle.gvis.specs.Look.{Look}
+use Rattle.gvis.specs.Paths.{is_relative, resolved}
+use Rattle.gvis.specs.ProfileFiles.{is_good_eapi, rules_in}
+use Rattle.gvis.specs.Reading.{layout, most_bytes, first_refusal}
+
+words : line_words (codes " a\tb#c #d e") ≡ codes "a" ∷ codes "b#c" ∷ []
+words = refl
+
+-- a path that left the root has left it, also where it comes back
+ways : (resolved (codes "profiles") (codes "default/../base/") ≡ Some (codes "profiles/base"))
+    × (resolved (codes "profiles") (codes ".") ≡ Some (codes "profiles")) × (resolved (codes "profiles") (codes "..") ≡ None)
+    × (resolved (codes "profiles") (codes "../../profiles/base") ≡ None) × (is_relative (codes "a//b") ≡ false) × (is_relative (codes "/a") ≡ false)
+ways = (refl, refl, refl, refl, refl, refl)
+
+-- a repeat of a good line doesn't count, whatever its status is; a bad line is no earlier line
+lines : counted_lines (codes "a b stabl" ++ 10 ∷ codes "a b dev # x" ++ 10 ∷ 10 ∷ codes "a b what" ++ 10 ∷ codes "a b/ exp")
+    ≡ record { line = 2; arch = codes "a"; path = codes "b"; status = Dev } ∷ record { line = 5; arch = codes "a"; path = codes "b/"; status = Exp } ∷ []
+lines = refl
+
+names : (entry_name (codes "p_1-10") ≡ Some (record { name = codes "p_1"; version = 10 })) × (entry_name (codes "p-01") ≡ None) × (entry_name (codes "p-q-1") ≡ None)
+    × (entry_name (codes "p-0") ≡ Some (record { name = codes "p"; version = 0 })) × (entry_name (codes "Manifest.gz") ≡ None) × (entry_name (codes "p-1234567890123456789") ≡ None)
+names = (refl, refl, refl, refl, refl, refl)
+
+-- the first word of the whole file decides
+eapis : (is_good_eapi (codes "# 9" ++ 10 ∷ codes "8 9") ≡ true) × (is_good_eapi [] ≡ true) × (is_good_eapi (codes "08") ≡ false) × (is_good_eapi (codes "9") ≡ false)
+eapis = (refl, refl, refl, refl)
+
+rules : rules_in (codes "a" ++ 10 ∷ codes "b c" ++ 10 ∷ codes "-a" ++ 10 ∷ codes "-") ≡ record { flag = codes "a"; on = true } ∷ record { flag = codes "a"; on = false } ∷ []
+rules = refl
+
+-- ---- small trees: one profile, one more path, and the names below the cache folder of `app`
+abbrev base : List ℕ → Found → List ℕ → Found
+base path found p =
+    if bytes_eq p path then found
+    else (if bytes_eq p (codes "profiles/profiles.desc") then File (codes "amd64 base stable")
+    else (if bytes_eq p (codes "profiles/categories") then File (codes "app")
+    else (if bytes_eq p (codes "profiles/base") then Dir else Absent)))
+
+abbrev in_app : List (List ℕ) → List ℕ → List (List ℕ)
+in_app names p = if bytes_eq p (codes "metadata/md5-cache/app") then names else []
+
+abbrev tree : List ℕ → Found → List (List ℕ) → Look
+tree path found names = record { found = base path found; names = in_app names }
+
+nothing_more : first_refusal (tree [] Absent []) ≡ None
+unfolding first_refusal layout most_bytes
+nothing_more = refl
+
+no_desc : first_refusal (tree (codes "profiles/profiles.desc") Dir []) ≡ Some (NotARepository (codes "profiles/profiles.desc"))
+unfolding first_refusal layout most_bytes
+no_desc = refl
+
+no_categories : first_refusal (tree (codes "profiles/categories") Absent []) ≡ Some (NotARepository (codes "profiles/categories"))
+unfolding first_refusal layout most_bytes
+no_categories = refl
+
+parent : first_refusal (tree (codes "profiles/base/parent") (File []) (codes "Manifest.gz" ∷ [])) ≡ Some (NotBuilt (codes "profiles/base/parent"))
+unfolding first_refusal layout most_bytes
+parent = refl
+
+mask_folder : first_refusal (tree (codes "profiles/base/use.mask") Dir []) ≡ Some (NotBuilt (codes "profiles/base/use.mask"))
+unfolding first_refusal layout most_bytes
+mask_folder = refl
+
+bad_name : first_refusal (tree (codes "profiles/base/use.mask") (File []) (codes "a-1" ∷ codes "a-1.2" ∷ [])) ≡ Some (NotBuilt (codes "metadata/md5-cache/app/a-1.2"))
+unfolding first_refusal layout most_bytes
+bad_name = refl

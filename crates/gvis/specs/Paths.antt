@@ -1,0 +1,53 @@
+-- Paths: below a folder, and relative to one.
+use Rattle.std.specs.Prelude.{ℕ, nat_eq, nat_le, Bool, true, false, not, ◌&&◌, if◌then◌else◌, List, [], ◌∷◌, ◌++◌, ◌-◌, Option, Some, None, fold, take, length}
+use Rattle.std.specs.List.{list_all, ends_with}
+use Rattle.std.specs.Str.{bytes_eq}
+use Rattle.gv_base.specs.declared.pieces.Cut.TheVariants.{Parts}
+use Rattle.gv_base.specs.Pieces.{pieces}
+
+-- a name in a folder
+abbrev pub within : List ℕ → List ℕ → List ℕ
+within dir name = dir ++ 47 ∷ name
+
+-- no blank, no control character and nothing beyond ASCII: each byte is one of 0x21 to 0x7E
+abbrev pub is_visible : List ℕ → Bool
+is_visible bytes = list_all (λ b. nat_le 33 b && nat_le b 126) bytes
+
+abbrev pub is_part : List ℕ → Bool
+is_part part = not (nat_eq (length part) 0) && is_visible part
+
+-- a slash at the end is dropped
+abbrev pub without_slash : List ℕ → List ℕ
+without_slash path = if ends_with nat_eq path (47 ∷ []) then take (length path - 1) path else path
+
+-- one or more parts, none of them empty, joined by slashes
+abbrev pub is_relative : List ℕ → Bool
+is_relative path = list_all is_part (pieces Parts (without_slash path))
+
+-- the parts of the way to a place; none behind the root
+abbrev pub Place : Type 0
+Place = Option (List (List ℕ))
+
+abbrev pub above : List (List ℕ) → Place
+above place = if nat_eq (length place) 0 then None else Some (take (length place - 1) place)
+
+-- `.` stays, `..` goes up, another part goes down; a way that left the root has left it
+abbrev pub place_after : Place → List ℕ → Place
+place_after None part = None
+place_after (Some place) part =
+    if bytes_eq part (46 ∷ []) then Some place
+    else (if bytes_eq part (46 ∷ 46 ∷ []) then above place else Some (place ++ part ∷ []))
+
+-- each part behind a slash
+abbrev pub tail_of : List (List ℕ) → List ℕ
+tail_of [] = []
+tail_of (part ∷ parts) = 47 ∷ (part ++ tail_of parts)
+
+abbrev pub path_of : Place → Option (List ℕ)
+path_of None = None
+path_of (Some []) = None
+path_of (Some (part ∷ parts)) = Some (part ++ tail_of parts)
+
+-- the path from a folder; none where it leaves the root or is the root
+abbrev pub resolved : List ℕ → List ℕ → Option (List ℕ)
+resolved dir path = path_of (fold place_after (Some (pieces Parts dir)) (pieces Parts (without_slash path)))

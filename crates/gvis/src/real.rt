@@ -1,0 +1,267 @@
+//! The outside of a real machine: folders and files, standard input and standard output. What they hold isn't told to
+//! contracts; how often they failed is.
+//!
+//! A call costs the system's calls; a file that is read is copied once.
+ghost use Rattle.std.specs.Prelude.{◌≤◌, ◌<◌, ◌^◌, length, IfOk, None};
+ghost use Rattle.gv_base.specs.Outside.{HasAtMost};
+
+use gv_base::{
+    Failed, Found, MAX_FILE_BYTES, NoMemory, Sink, SinkFault, Source, Store, StoreFault, Text,
+    Texts, Tree, TreeFault,
+};
+use std::alloc::Global;
+use std::io::{ErrorKind, Read, Write};
+use std::rt::Files;
+use std::{fs, io};
+
+/// A folder of the system.
+#[derive(Drop)]
+pub struct FsTree<R: Files + AllocGlobal + Clone + Drop> {
+    rt: R,
+    root: Text,
+    faults: u64,
+}
+
+/// Files of the system, by their paths.
+#[derive(Drop)]
+pub struct FsStore<R: Files + Drop> {
+    rt: R,
+    faults: u64,
+}
+
+/// A reader of bytes, as the standard input.
+#[derive(Drop)]
+pub struct StdSource<R: Read + Drop> {
+    reader: R,
+    faults: u64,
+}
+
+/// A writer of bytes, as the standard output.
+#[derive(Drop)]
+pub struct StdSink<W: Write + Drop> {
+    writer: W,
+    faults: u64,
+}
+
+impl<R: Files + AllocGlobal + Clone + Drop> FsTree<R> {
+    pub fn new(rt: R, root: Text) -> Self {
+        FsTree {
+            rt,
+            root,
+            faults: 0,
+        }
+    }
+}
+
+impl<R: Files + Drop> FsStore<R> {
+    pub fn new(rt: R) -> Self {
+        FsStore { rt, faults: 0 }
+    }
+}
+
+impl<R: Read + Drop> StdSource<R> {
+    pub fn new(reader: R) -> Self {
+        StdSource { reader, faults: 0 }
+    }
+}
+
+impl<W: Write + Drop> StdSink<W> {
+    pub fn new(writer: W) -> Self {
+        StdSink { writer, faults: 0 }
+    }
+}
+
+// How a call of the system failed.
+#[derive(Clone, Copy, PartialEq, Eq)]
+enum Trouble {
+    NotThere,
+    TooLarge,
+    NoMemory,
+    Other,
+}
+
+fn trouble_of(e: &io::Error) -> Trouble {
+    match e.kind() {
+        ErrorKind::NotFound | ErrorKind::NotADirectory => Trouble::NotThere,
+        ErrorKind::OutOfMemory => Trouble::NoMemory,
+        _ => Trouble::Other,
+    }
+}
+
+// The path under the root.
+fn full_path(alloc: Global, root: &Text, path: &Text) -> Result<String, Trouble> {
+    let mut bytes = Vec::new(alloc);
+    if bytes.extend_from_slice(root.bytes()).is_err()
+        || bytes.push(b'/').is_err()
+        || bytes.extend_from_slice(path.bytes()).is_err()
+    {
+        return Err(Trouble::NoMemory);
+    }
+    String::from_utf8(bytes).map_err(|_| Trouble::Other)
+}
+
+// All the bytes of a file, of which there may be no more than that.
+fn read_file<R: Files>(rt: &R, alloc: Global, path: &str, limit: u64) -> Result<Text, Trouble>
+    requires { limit < 2 ^ 63 }
+    ensures { IfOk result (λ text. length text ≤ limit) }
+{
+    let file = fs::open(rt, path).map_err(|e| trouble_of(&e))?;
+    let mut bytes = Vec::new(alloc);
+    let mut part = file.take(limit + 1);
+    if let Err(e) = part.read_to_end(&mut bytes) {
+        return Err(trouble_of(&e));
+    }
+    if bytes.len() as u64 > limit {
+        return Err(Trouble::TooLarge);
+    }
+    Text::of(alloc, &bytes).map_err(|_| Trouble::NoMemory)
+}
+
+fn look<R: Files>(rt: &R, alloc: Global, path: &str) -> Result<Found, Trouble>
+    ensures { IfOk result (HasAtMost MAX_FILE_BYTES) }
+{
+    let metadata = fs::metadata(rt, path).map_err(|e| trouble_of(&e))?;
+    if metadata.is_dir() {
+        return Ok(Found::Dir);
+    }
+    Ok(Found::File(read_file(rt, alloc, path, MAX_FILE_BYTES)?))
+}
+
+fn names<R: Files + AllocGlobal + Clone + Drop>(
+    rt: &R,
+    alloc: Global,
+    path: &str,
+) -> Result<Texts, Trouble> {
+    let mut names = Texts::new(alloc);
+    for entry in fs::read_dir(rt, path).map_err(|e| trouble_of(&e))? {
+        let entry = entry.map_err(|e| trouble_of(&e))?;
+        let Ok(name) = Text::of(alloc, entry.file_name().as_bytes()) else {
+            return Err(Trouble::NoMemory);
+        };
+        if names.add(name).is_err() {
+            return Err(Trouble::NoMemory);
+        }
+    }
+    Ok(names)
+}
+
+impl<R: Files + AllocGlobal + Clone + Drop> Tree for FsTree<R> {
+    ghost files = { λ _. None };
+
+    ghost faults = { λ t. t.faults };
+
+    fn enter(&mut self, alloc: Global, root: &Text) -> Result<(), NoMemory> {
+        self.root = root.copy(alloc)?;
+        Ok(())
+    }
+
+    fn read(&mut self, alloc: Global, path: &Text) -> Result<Found, TreeFault> {
+        let found = match full_path(alloc, &self.root, path) {
+            Ok(full) => look(&self.rt, alloc, &full),
+            Err(trouble) => Err(trouble),
+        };
+        match found {
+            Ok(found) => Ok(found),
+            Err(Trouble::NotThere) => Ok(Found::Absent),
+            Err(Trouble::TooLarge) => Err(TreeFault::TooLarge),
+            Err(Trouble::NoMemory) => Err(TreeFault::NoMemory),
+            Err(Trouble::Other) => {
+                self.faults = self.faults.saturating_add(1);
+                Err(TreeFault::Failed)
+            }
+        }
+    }
+
+    fn list(&mut self, alloc: Global, path: &Text) -> Result<Texts, TreeFault> {
+        let found = match full_path(alloc, &self.root, path) {
+            Ok(full) => names(&self.rt, alloc, &full),
+            Err(trouble) => Err(trouble),
+        };
+        match found {
+            Ok(names) => Ok(names),
+            Err(Trouble::NotThere) => Ok(Texts::new(alloc)),
+            Err(Trouble::NoMemory) => Err(TreeFault::NoMemory),
+            Err(_) => {
+                self.faults = self.faults.saturating_add(1);
+                Err(TreeFault::Failed)
+            }
+        }
+    }
+}
+
+impl<R: Files + Drop> Store for FsStore<R> {
+    ghost files = { λ _. None };
+
+    ghost faults = { λ s. s.faults };
+
+    fn fetch(&mut self, alloc: Global, path: &Text) -> Result<Option<Text>, StoreFault> {
+        let found = match std::str::from_utf8(path.bytes()) {
+            Ok(path) => read_file(&self.rt, alloc, path, 1 << 62),
+            Err(_) => Err(Trouble::Other),
+        };
+        match found {
+            Ok(text) => Ok(Some(text)),
+            Err(Trouble::NotThere) => Ok(None),
+            Err(Trouble::NoMemory) => Err(StoreFault::NoMemory),
+            Err(_) => {
+                self.faults = self.faults.saturating_add(1);
+                Err(StoreFault::Failed)
+            }
+        }
+    }
+
+    fn replace(&mut self, _alloc: Global, path: &Text, bytes: &Text) -> Result<(), StoreFault> {
+        let Ok(path) = std::str::from_utf8(path.bytes()) else {
+            self.faults = self.faults.saturating_add(1);
+            return Err(StoreFault::Failed);
+        };
+        match fs::write(&self.rt, path, bytes.bytes()) {
+            Ok(()) => Ok(()),
+            Err(e) => {
+                if trouble_of(&e) == Trouble::NoMemory {
+                    return Err(StoreFault::NoMemory);
+                }
+                self.faults = self.faults.saturating_add(1);
+                Err(StoreFault::Failed)
+            }
+        }
+    }
+}
+
+impl<R: Read + Drop> Source for StdSource<R> {
+    ghost left = { λ _. None };
+
+    ghost faults = { λ s. s.faults };
+
+    fn next(&mut self, room: &mut [u8]) -> Result<usize, Failed> {
+        match self.reader.read(room) {
+            Ok(n) => Ok(n),
+            Err(_) => {
+                self.faults = self.faults.saturating_add(1);
+                Err(Failed)
+            }
+        }
+    }
+}
+
+impl<W: Write + Drop> Sink for StdSink<W> {
+    ghost held = { λ _. None };
+
+    ghost faults = { λ s. s.faults };
+
+    fn put(&mut self, piece: &[u8]) -> Result<usize, SinkFault> {
+        match self.writer.write(piece) {
+            Ok(0) => {
+                if !piece.is_empty() {
+                    self.faults = self.faults.saturating_add(1);
+                }
+                Ok(0)
+            }
+            Ok(n) => Ok(n),
+            Err(_) => {
+                self.faults = self.faults.saturating_add(1);
+                Err(SinkFault::Failed)
+            }
+        }
+    }
+}

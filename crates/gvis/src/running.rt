@@ -1,0 +1,54 @@
+//! The top call: all that the program does, over any outside.
+ghost use Rattle.std.specs.Prelude.{◌≡◌, ◌<◌, ◌≤◌, ◌⊎◌, ℕ, List, true, false, IfSome};
+ghost use Rattle.gv_base.specs.Causes.{Rose};
+ghost use Rattle.gv_base.specs.Outside.{gains};
+ghost use Rattle.gvis.specs.Look.{look_of};
+ghost use Rattle.gvis.specs.Run.{scan_of, said_by, world, GainsText, SaysNoRepository, SaysNotBuilt, Runs};
+ghost use Rattle.gvis.specs.Words.{is_scan};
+
+use crate::scanning::scan;
+use crate::telling::tell;
+use gv_base::{Ledger, Sink, Source, Steps, Store, Texts, Tree};
+use std::alloc::Global;
+
+/// Runs the command that the words ask for, and answers the status to end with.
+///
+/// `words` are the command's words without the program's name: `scan ROOT --certs FILE`. The lines of the reports go to
+/// `out`, and the line of a refusal goes to `err`. The statuses are 0 (no reports), 1 (reports), 2 (bad command line),
+/// 3 (the tree or the output failed), 5 (out of memory), 6 (not a repository), 9 (not built). Store, input and steps are
+/// not touched.
+pub fn run<T: Tree, K: Store, I: Source, S: Sink, E: Sink, L: Ledger>(
+    alloc: Global,
+    words: &Texts,
+    tree: &mut T,
+    store: &mut K,
+    input: &mut I,
+    out: &mut S,
+    err: &mut E,
+    steps: &mut Steps<L>,
+) -> u8
+    ensures runs { Runs words.now
+        (world (T.files tree.old) (T.faults tree.old) (S.held out.old) (S.faults out.old))
+        (world (T.files tree.new) (T.faults tree.new) (S.held out.new) (S.faults out.new))
+        (E.held err.old) (E.held err.new) (E.faults err.old) (E.faults err.new) result }
+
+    // What isn't touched.
+    ensures store { store.new ≡ store.old }
+    ensures input { input.new ≡ input.old }
+    ensures steps { steps.new ≡ steps.old }
+
+    // The same, by the status.
+    ensures report { result < 2 → GainsText (T.files tree.old) (S.held out.old) (S.held out.new) result }
+    ensures bad_words { result ≡ 2 → is_scan words.now ≡ false }
+    ensures bad_words_only { is_scan words.now ≡ false → (result ≡ 2) ⊎ (result ≡ 5) }
+    ensures fault { result ≡ 3 → Rose (T.faults tree.old) (T.faults tree.new) ⊎ Rose (S.faults out.old) (S.faults out.new) }
+    ensures not_a_repository { result ≡ 6 → SaysNoRepository (T.files tree.old) (E.held err.old) (E.held err.new) (E.faults err.old) (E.faults err.new) }
+    ensures not_built { result ≡ 9 → SaysNotBuilt (T.files tree.old) (E.held err.old) (E.held err.new) (E.faults err.old) (E.faults err.new) }
+
+    // Good words and no fault give what the files say.
+    ensures complete { is_scan words.now ≡ true → (Rose (T.faults tree.old) (T.faults tree.new) → ⊥) → (Rose (S.faults out.old) (S.faults out.new) → ⊥)
+        → IfSome (T.files tree.old) (λ files. (result ≡ said_by (scan_of (look_of files))) ⊎ (result ≡ 5)) }
+{
+    let ending = scan(alloc, words, tree, out);
+    tell(alloc, &ending, err)
+}

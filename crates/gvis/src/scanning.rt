@@ -1,0 +1,99 @@
+//! A scan: reads a repository, judges it and writes the reports. Nothing is written before all is judged.
+ghost use Rattle.std.specs.Prelude.{◌≡◌, ◌≤◌, Ok, IfSome, IfOk, IfErr, OnOk, OnErr};
+ghost use Rattle.gv_base.specs.Outside.{gains};
+ghost use Rattle.gvis.specs.Look.{look_of};
+ghost use Rattle.gvis.specs.LoadCauses.{LoadCause};
+ghost use Rattle.gvis.specs.Reading.{first_refusal};
+ghost use Rattle.gvis.specs.RepoReports.{scan_text, first_wide};
+ghost use Rattle.gvis.specs.Repository.{repo_of};
+ghost use Rattle.gvis.specs.Run.{world, IsText, IsLoaded, GainsFront, ReadCause, WideCause, WriteCause, Scans};
+
+use crate::output::put_all;
+use crate::words::read_words;
+use crate::{JudgeFault, LoadFault, Refusal, Repo, load, report_text};
+use gv_base::{Sink, SinkFault, Text, Texts, Tree};
+use std::alloc::Global;
+
+#[tactic(auto, using(crate::proofs::Scanned::loaded, crate::proofs::Scanned::is_refused))]
+fn read<T: Tree>(alloc: Global, tree: &mut T) -> Result<Repo, Refusal>
+    ensures repo { IfOk result (IsLoaded (T.files tree.old)) }
+    ensures cause { IfErr result (ReadCause (T.files tree.old) (T.faults tree.old) (T.faults tree.new)) }
+    ensures files { T.files tree.new ≡ T.files tree.old }
+    ensures later { T.faults tree.old ≤ T.faults tree.new }
+    ensures calm { OnOk result (T.faults tree.new ≡ T.faults tree.old) }
+{
+    match load(alloc, tree) {
+        Ok(repo) => Ok(repo),
+        Err(LoadFault::Tree { path }) => Err(Refusal::TreeFailed { path }),
+        Err(LoadFault::NotARepository { path }) => Err(Refusal::NotARepository { path }),
+        Err(LoadFault::NotBuilt { place }) => Err(Refusal::NotBuilt { place }),
+        Err(LoadFault::NoMemory) => Err(Refusal::NoMemory),
+    }
+}
+
+fn judge(alloc: Global, repo: &Repo) -> Result<Text, Refusal>
+    ensures text { IfOk result (λ text. text ≡ scan_text repo.now) }
+    ensures narrow { OnOk result (first_wide repo.now ≡ None) }
+    ensures cause { IfErr result (WideCause repo.now) }
+{
+    match report_text(alloc, repo) {
+        Ok(text) => Ok(text),
+        Err(JudgeFault::Wide { place }) => Err(Refusal::NotBuilt { place }),
+        Err(JudgeFault::NoMemory) => Err(Refusal::NoMemory),
+    }
+}
+
+// The text of the reports.
+#[tactic(auto, using(crate::proofs::Scanned::is_text, crate::proofs::Scanned::is_wide))]
+fn report<T: Tree>(alloc: Global, tree: &mut T) -> Result<Text, Refusal>
+    ensures text { IfOk result (IsText (T.files tree.old)) }
+    ensures cause { IfErr result (ReadCause (T.files tree.old) (T.faults tree.old) (T.faults tree.new)) }
+    ensures files { T.files tree.new ≡ T.files tree.old }
+    ensures later { T.faults tree.old ≤ T.faults tree.new }
+    ensures calm { OnOk result (T.faults tree.new ≡ T.faults tree.old) }
+{
+    let repo = match read(alloc, tree) {
+        Ok(repo) => repo,
+        Err(refusal) => return Err(refusal),
+    };
+    match judge(alloc, &repo) {
+        Ok(text) => Ok(text),
+        Err(refusal) => Err(refusal),
+    }
+}
+
+fn write<S: Sink>(out: &mut S, text: &Text) -> Result<(), Refusal>
+    ensures ok { OnOk result (S.held out.new ≡ gains (S.held out.old) text.now) }
+    ensures err { OnErr result (GainsFront (S.held out.old) (S.held out.new) text.now) }
+    ensures cause { IfErr result (WriteCause (S.faults out.old) (S.faults out.new)) }
+    ensures later { S.faults out.old ≤ S.faults out.new }
+{
+    match put_all(out, text.bytes()) {
+        Ok(()) => Ok(()),
+        Err(SinkFault::Failed) => Err(Refusal::OutputFailed),
+        Err(SinkFault::NoMemory) => Err(Refusal::NoMemory),
+    }
+}
+
+/// Scans, and answers whether there are reports.
+pub(crate) fn scan<T: Tree, S: Sink>(
+    alloc: Global,
+    words: &Texts,
+    tree: &mut T,
+    out: &mut S,
+) -> Result<bool, Refusal>
+    ensures { Scans words.now
+        (world (T.files tree.old) (T.faults tree.old) (S.held out.old) (S.faults out.old))
+        (world (T.files tree.new) (T.faults tree.new) (S.held out.new) (S.faults out.new))
+        result }
+{
+    let Some(asked) = read_words(words) else {
+        return Err(Refusal::BadWords);
+    };
+    if tree.enter(alloc, asked.root).is_err() {
+        return Err(Refusal::NoMemory);
+    }
+    let text = report(alloc, tree)?;
+    write(out, &text)?;
+    Ok(!text.bytes().is_empty())
+}

@@ -1,0 +1,14 @@
+# Distributed under the terms of the GNU General Public License v2
+
+EAPI=8
+
+DESCRIPTION="Small editor for the terminal"
+
+SLOT="0"
+KEYWORDS="amd64 riscv"
+IUSE="magic unicode"
+
+RDEPEND="
+	sys-libs/ncurses
+	magic? ( sys-apps/file )
+"
