@@ -1,4 +1,6 @@
 mod Examples
+pub mod LeastLaw
+pub mod TrialLaw
 mod Worlds
 pub mod AssignmentLemmas
 pub mod CaseLemmas

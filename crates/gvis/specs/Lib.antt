@@ -10,6 +10,7 @@ pub mod Holds
 pub mod Index
 pub mod Judged
 pub mod Least
+pub mod LeastFailing
 pub mod Queries
 pub mod RepoReports
 pub mod ReportLaws

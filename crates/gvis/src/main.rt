@@ -8,6 +8,7 @@ mod holds;
 mod index;
 mod judged;
 mod judging;
+mod laws;
 mod least;
 mod queries;
 mod report;
@@ -20,6 +21,7 @@ pub use facts::{
     Rules, Status,
 };
 pub use judging::{JudgeFault, report_text};
+pub use laws::least_of_all_assignments;
 pub use report::{ContextName, Keyword, Report, Subject};
 use std::process::ExitCode;
 
