@@ -13,6 +13,8 @@ mod least;
 mod queries;
 mod report;
 mod reporting;
+#[cfg(test)]
+mod tests;
 mod values;
 
 pub use entry::{EntryRead, read_entry};
