@@ -7,6 +7,8 @@
 mod atom;
 mod fault;
 mod reading;
+#[cfg(test)]
+mod tests;
 
 pub use atom::Atom;
 pub use fault::{AtomFault, AtomKind};

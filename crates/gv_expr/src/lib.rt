@@ -11,6 +11,8 @@ mod mentions;
 mod printing;
 mod reader;
 mod reading;
+#[cfg(test)]
+mod tests;
 mod token;
 
 pub use dep::{DepExpr, DepTree};

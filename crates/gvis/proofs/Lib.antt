@@ -1,5 +1,7 @@
 mod Examples
 mod ReadingExamples
+pub mod LeastLaw
+pub mod TrialLaw
 mod Worlds
 pub mod AssignmentLemmas
 pub mod CaseLemmas
