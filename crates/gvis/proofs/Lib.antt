@@ -1,8 +1,11 @@
-pub mod AssignmentLemmas
 mod Examples
+pub mod LeastLaw
+pub mod TrialLaw
+mod Worlds
+pub mod AssignmentLemmas
+pub mod CaseLemmas
 pub mod FirstFailing
 pub mod IndexLemmas
-mod Worlds
 pub mod Numbers
 pub mod Passing
 pub mod PathLemmas

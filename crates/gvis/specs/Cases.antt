@@ -25,6 +25,10 @@ case_of among m profile level = record {
 abbrev pub case_in : List Pkg → Member → Profile → Option Case
 case_in among m profile = option_map (case_of among m profile) (judged m.pkg profile)
 
+-- a package in all profiles that judge it, by profile line
+abbrev pub cases_of : List Pkg → List Profile → Member → List Case
+cases_of among profiles m = filter_map (case_in among m) profiles
+
 -- by package, then by profile line
 abbrev pub cases : Repo → List Case
-cases repo = flat_map (λ m. filter_map (case_in (pkgs_of repo.members) m) repo.profiles) repo.members
+cases repo = flat_map (cases_of (pkgs_of repo.members) repo.profiles) repo.members

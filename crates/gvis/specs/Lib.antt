@@ -19,6 +19,7 @@ pub mod LoadCauses
 pub mod Look
 pub mod Paths
 pub mod ProfileFiles
+pub mod LeastFailing
 pub mod Queries
 pub mod Reading
 pub mod RepoReports

@@ -1,5 +1,5 @@
 -- The reports of a repository, and the text of a scan.
-use Rattle.std.specs.Prelude.{ℕ, Bool, true, false, List, [], ◌∷◌, ◌++◌, Option, None, option_map, slice_get, if◌then◌else◌, map, filter, flat_map, filter_map, unwrap_or, fold, codes}
+use Rattle.std.specs.Prelude.{ℕ, Bool, true, false, List, [], ◌∷◌, ◌++◌, Option, None, option_map, slice_get, if◌then◌else◌, flat_map, filter_map, unwrap_or, fold, codes}
 use Rattle.std.specs.BTreeSet.{insert_key}
 use Rattle.gv_expr.specs.DepGrammar.{item_text}
 use Rattle.gv_base.specs.Words.{joined}
@@ -63,9 +63,12 @@ reports repo = flat_map case_reports (cases repo)
 abbrev pub scan_text : Repo → List ℕ
 scan_text repo = report_text (ordered (reports repo))
 
--- the packages that have a query of too many flags
+-- the package of a case, where that has a query of too many flags
+abbrev pub wide_of : Case → List Subject
+wide_of c = if has_wide c then subject_of c.member.pkg ∷ [] else []
+
 abbrev pub wide_subjects : Repo → List Subject
-wide_subjects repo = map (λ c. subject_of c.member.pkg) (filter has_wide (cases repo))
+wide_subjects repo = flat_map wide_of (cases repo)
 
 -- CATEGORY/PF of the first of them in package order: queries are ordered by package before all else
 abbrev pub first_wide : Repo → Option (List ℕ)
