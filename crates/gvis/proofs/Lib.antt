@@ -1,7 +1,5 @@
 mod Examples
 mod ReadingExamples
-pub mod LeastLaw
-pub mod TrialLaw
 mod Worlds
 pub mod AssignmentLemmas
 pub mod CaseLemmas
@@ -9,6 +7,7 @@ pub mod DescKeys
 pub mod FirstFailing
 pub mod Gains
 pub mod IndexLemmas
+pub mod LeastLaw
 pub mod Listings
 pub mod Loads
 pub mod Numbers
@@ -17,5 +16,6 @@ pub mod PathLemmas
 pub mod Readings
 pub mod Scanned
 pub mod TreeMaps
+pub mod TrialLaw
 pub mod Utf8Tests
 pub mod WitnessLemmas
