@@ -150,51 +150,78 @@ fn steps_that_follow_and_steps_that_do_not(rt: HostRuntime) -> Result<(), Fail> 
     Ok(())
 }
 
+// Bits, the steps of a log, and whether the log proves the bits least.
+#[derive(Clone, Copy)]
+struct LeastCase<'a> {
+    what: &'a str,
+    on: &'a [bool],
+    steps: &'a [Written<'a>],
+    want: bool,
+}
+
+fn least<'a>(
+    what: &'a str,
+    on: &'a [bool],
+    steps: &'a [Written<'a>],
+    want: bool,
+) -> LeastCase<'a> {
+    LeastCase {
+        what,
+        on,
+        steps,
+        want,
+    }
+}
+
+fn proved_least(alloc: Global, case: &LeastCase) -> Result<bool, NoMemory> {
+    let log = log_of(alloc, case.steps)?;
+    let mut bits = Bits::new(alloc);
+    for bit in case.on {
+        bits.add(*bit)?;
+    }
+    Ok(proves_least(&log, &bits))
+}
+
 #[test]
 fn least_bits_need_a_step_for_each_input_that_is_on(rt: HostRuntime) -> Result<(), Fail> {
     let alloc = rt.alloc();
-    let cases: [(&str, &[bool], &[Written], bool); 8] = [
-        ("no inputs", &[], &[], true),
-        ("all off", &[false, false], &[], true),
-        (
+    let cases: [LeastCase; 8] = [
+        least("no inputs", &[], &[], true),
+        least("all off", &[false, false], &[], true),
+        least(
             "a step for each",
             &[false, true, true],
             &[(&[0, 2], &[0]), (&[0, 4], &[0])],
             true,
         ),
-        (
+        least(
             "in any order",
             &[false, true, true],
             &[(&[0, 4], &[]), (&[7], &[]), (&[0, 2], &[])],
             true,
         ),
-        (
+        least(
             "one missing",
             &[false, true, true],
             &[(&[0, 2], &[0])],
             false,
         ),
-        (
+        least(
             "without the lower one",
             &[false, true],
             &[(&[2], &[0])],
             false,
         ),
-        (
+        least(
             "not rising",
             &[false, false, true],
             &[(&[2, 0, 4], &[0])],
             false,
         ),
-        ("the empty clause", &[true], &[(&[], &[0])], false),
+        least("the empty clause", &[true], &[(&[], &[0])], false),
     ];
-    for (what, on, steps, want) in cases {
-        let log = log_of(alloc, steps)?;
-        let mut bits = Bits::new(alloc);
-        for bit in on {
-            bits.add(*bit)?;
-        }
-        assert_eq!(rt; proves_least(&log, &bits), want, "{what}");
+    for case in &cases {
+        assert_eq!(rt; proved_least(alloc, case)?, case.want, "{}", case.what);
     }
     assert_eq!(rt;
         Hints::of(alloc, &[3, 1])?.copy(alloc)?.items(),
