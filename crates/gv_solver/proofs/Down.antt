@@ -1,5 +1,5 @@
 -- The way down.
-use Rattle.std.proofs.Common.{◌≡◌, ◌⊎◌, inl, inr, ℕ, ◌+◌, ◌*◌, ◌/◌, ◌<◌, ◌≤◌, Bool, true, false, Option, Some, None, List, [], ◌∷◌, ◌++◌, refl, sym, ap, subst, ◌∙◌, arith}
+use Rattle.std.proofs.Common.{◌≡◌, ◌⊎◌, inl, inr, ℕ, ◌+◌, ◌*◌, ◌/◌, ◌≤◌, Bool, true, false, Option, Some, None, List, [], ◌∷◌, ◌++◌, refl, sym, ap, subst, ◌∙◌, arith}
 use Rattle.std.specs.Prelude.{slice_get, slice_set, replicate}
 use Rattle.std.specs.List.{AllByRecursion}
 use Rattle.std.proofs.lemmas.Bool.{cases_lt}
@@ -8,7 +8,7 @@ use Rattle.gv_logic.specs.Kept.{IsRising, IsWithin}
 use Rattle.gv_logic.specs.Literals.{opposite}
 use Rattle.gv_logic.specs.Logs.{set_clause}
 use Rattle.gv_logic.specs.Partial.{is_true, unit_after, Has, AllQuiet, IsProper}
-use Rattle.gv_solver.specs.Clash.{decided, decided_or, AreAmong, Derived}
+use Rattle.gv_solver.specs.Clash.{decided, decided_or, AreAmong}
 use Rattle.gv_solver.specs.Marks.{Below}
 use Rattle.gv_solver.specs.Puts.{Grows, Settles}
 use Rattle.gv_solver.specs.Search.{IsAssigned, IsLeast, IsOrdered, AreFree, Ready, IsSearch, IsSearched}

@@ -1,5 +1,5 @@
 -- What the answers carry.
-use Rattle.std.proofs.Common.{◌≡◌, inl, inr, ℕ, ◌+◌, ◌*◌, ◌^◌, ◌<◌, ◌≤◌, Bool, false, List, [], ◌∷◌, ◌++◌, length, map, refl, sym, ap, subst, ◌∙◌, append-nil, arith}
+use Rattle.std.proofs.Common.{◌≡◌, inl, inr, ℕ, ◌≤◌, Bool, List, [], ◌∷◌, ◌++◌, length, refl, sym, ap, subst, ◌∙◌, append-nil, arith}
 use Rattle.std.specs.List.{AllByRecursion}
 use Rattle.std.proofs.lemmas.List.{length-map}
 use Rattle.gv_logic.specs.Formulas.{Formula}
@@ -8,7 +8,6 @@ use Rattle.gv_logic.specs.Logs.{Step, step_clauses, HasList, set_clause}
 use Rattle.gv_logic.specs.Partial.{AllQuiet}
 use Rattle.gv_trail.specs.Entries.{State, assignment}
 use Rattle.gv_trail.specs.Derived.{IsTrail}
-use Rattle.gv_solver.specs.Search.{Ready}
 use Rattle.gv_solver.specs.Work.{IsWork}
 use Rattle.gv_solver.specs.Rounds.{IsModel, IsRefuted}
 use Rattle.gv_solver.specs.Answers.{IsRefutation, IsLeastModel, IsSpent, bits_to}

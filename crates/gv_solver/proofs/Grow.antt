@@ -1,5 +1,5 @@
 -- A trail that grows, and one that is taken back.
-use Rattle.std.proofs.Common.{◌≡◌, inl, inr, ℕ, ◌+◌, ◌*◌, ◌<◌, Bool, true, false, cond, nat_le, drop, drop-cons, add-one, Option, Some, None, List, [], ◌∷◌, ◌++◌, length, get_or, refl, sym, ap, subst, ◌∙◌, arith}
+use Rattle.std.proofs.Common.{◌≡◌, inl, inr, ℕ, ◌+◌, ◌*◌, ◌<◌, Bool, true, false, cond, nat_le, drop, drop-cons, add-one, Option, Some, None, List, [], ◌∷◌, ◌++◌, length, get_or, refl, sym, ◌∙◌, arith}
 use Rattle.std.specs.Prelude.{slice_set, replicate}
 use Rattle.std.proofs.Math.ListN.{length-set}
 use Rattle.std.proofs.lemmas.List.{length-replicate}
@@ -9,7 +9,7 @@ use Rattle.gv_logic.specs.Kept.{IsWithin, AllOff, IsOpen}
 use Rattle.gv_logic.specs.Partial.{is_true, Has, AllQuiet}
 use Rattle.gv_trail.specs.declared.propagation.Propagation.{Propagation}
 use Rattle.gv_trail.specs.Entries.{Entry, State, assignment, made_true, front_to, AreLevels, level_after}
-use Rattle.gv_trail.specs.Derived.{IsDerived, IsTrail}
+use Rattle.gv_trail.specs.Derived.{IsTrail}
 use Rattle.gv_trail.specs.Told.{Tells, AreForced, Propagates}
 use Rattle.gv_solver.specs.Marks.{Below}
 use Rattle.gv_solver.specs.Clash.{AreAmong}

@@ -1,14 +1,14 @@
 -- One more set.
 use Rattle.std.proofs.Common.{◌≡◌, inl, inr, ℕ, zero, suc, ◌+◌, ◌*◌, ◌<◌, ◌≤◌, Bool, true, false, cond, nat_eq, Option, Some, None, List, [], ◌∷◌, ◌++◌, length, refl, sym, ap, subst, ◌∙◌, append_assoc, append-nil, length-append, arith}
-use Rattle.std.specs.Prelude.{slice_get, slice_set, replicate}
+use Rattle.std.specs.Prelude.{slice_get}
 use Rattle.std.specs.List.{AllByRecursion}
 use Rattle.std.proofs.lemmas.List.{map-append}
 use Rattle.std.proofs.lemmas.Grind.{common_steps}
 use Rattle.gv_logic.specs.Formulas.{Formula}
 use Rattle.gv_logic.specs.Kept.{IsWithin, IsTight, IsRising, set_clauses}
-use Rattle.gv_logic.specs.Logs.{Step, IsValid, first_refused, follows, step_clauses, HasList, set_clause}
+use Rattle.gv_logic.specs.Logs.{Step, first_refused, follows, step_clauses, HasList, set_clause}
 use Rattle.gv_logic.specs.Partial.{Has}
-use Rattle.gv_solver.specs.Search.{AreFree, Ready}
+use Rattle.gv_solver.specs.Search.{AreFree}
 use Rattle.gv_solver.specs.Work.{IsNewSet, AreNewSets, IsWork, IsLearned, TakesIn}
 use Rattle.gv_solver.specs.Rounds.{IsRefuted}
 use Rattle.gv_solver.specs.declared.rounds.Work.{Work}

@@ -1,5 +1,5 @@
 -- What a look at a literal's value tells.
-use Rattle.std.proofs.Common.{◌≡◌, inl, inr, ℕ, ◌+◌, ◌*◌, Bool, true, false, cond, Option, Some, None, List, refl, arith}
+use Rattle.std.proofs.Common.{◌≡◌, inl, inr, ℕ, ◌+◌, ◌*◌, Bool, true, false, cond, Some, None, List, refl}
 use Rattle.gv_logic.specs.Literals.{opposite}
 use Rattle.gv_logic.specs.Partial.{is_true}
 use Rattle.gv_trail.specs.Entries.{value_of}

@@ -1,5 +1,5 @@
 -- The reasons that a look-up gives are those of the entries.
-use Rattle.std.proofs.Common.{◌≡◌, ℕ, ◌+◌, ◌*◌, Bool, true, false, cond, nat_eq, Option, Some, None, List, [], ◌∷◌, length, refl, sym, ap, subst, ◌∙◌, arith}
+use Rattle.std.proofs.Common.{◌≡◌, ℕ, ◌*◌, Bool, true, false, nat_eq, Option, List, [], ◌∷◌, refl, sym, subst, arith}
 use Rattle.std.specs.Prelude.{slice_get, slice_set, replicate}
 use Rattle.std.specs.List.{AllByRecursion}
 use Rattle.std.proofs.lemmas.Grind.{common_steps}
@@ -7,8 +7,8 @@ use Rattle.gv_logic.specs.Partial.{is_true}
 use Rattle.gv_trail.specs.Entries.{Entry, State, lits_of, reason_of}
 use Rattle.gv_trail.specs.Derived.{IsDerived}
 use Rattle.gv_solver.specs.Clash.{Derived}
-use Rattle.gv_solver.specs.Replay.{replay, replay_at, replay_by}
-use Rattle.gv_solver.specs.Rests.{needed_at, needed, needed_by, rests_at, rests, rests_by, against_clause, reasons, rests_on}
+use Rattle.gv_solver.specs.Replay.{replay, replay_by}
+use Rattle.gv_solver.specs.Rests.{needed, needed_by, rests, rests_by, against_clause, reasons, rests_on}
 use Rattle.gv_solver.proofs.Core.{set_here, set_keeps}
 
 other : (a b : ℕ) → (a ≡ b → ⊥) → nat_eq a b ≡ false

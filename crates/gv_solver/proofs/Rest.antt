@@ -4,7 +4,7 @@ use Rattle.std.specs.Prelude.{slice_get, slice_set, replicate}
 use Rattle.std.specs.List.{AllByRecursion}
 use Rattle.std.proofs.Math.ListN.{length-set}
 use Rattle.std.proofs.lemmas.List.{length-replicate}
-use Rattle.gv_logic.specs.Kept.{IsRising, AllOff, Clashes}
+use Rattle.gv_logic.specs.Kept.{IsRising, Clashes}
 use Rattle.gv_logic.specs.Literals.{opposite}
 use Rattle.gv_logic.specs.Partial.{is_true, all_false, AllQuiet, Has, IsProper}
 use Rattle.gv_solver.specs.Clash.{Derived, decided, decided_or}

@@ -1,5 +1,5 @@
 -- What a solver has learned.
-use Rattle.std.specs.Prelude.{◌≡◌, ℕ, ◌*◌, ◌<◌, Bool, true, List, [], ◌∷◌, ◌++◌, length}
+use Rattle.std.specs.Prelude.{◌≡◌, ℕ, ◌*◌, ◌<◌, true, List, [], ◌∷◌, ◌++◌, length}
 use Rattle.std.specs.List.{AllByRecursion}
 use Rattle.gv_logic.specs.Formulas.{Formula}
 use Rattle.gv_logic.specs.Kept.{IsWithin, IsTight, IsRising, set_clauses}

@@ -1,6 +1,6 @@
 use Rattle.std.proofs.Common.{◌≡◌, ◌∙◌, ap}
 use Rattle.gv_logic.specs.Logs.{set_clause, least_set}
-use Rattle.gv_solver.proofs.Forced.{rising_least, proved_more, proved_none, proved_skip}
+use Rattle.gv_solver.proofs.Forced.{rising_least, proved_more, proved_none}
 use Rattle.gv_solver.proofs.least.prove_least.Goals as goal
 
 pub loop-input-init : goal.loop-input-init

@@ -1,5 +1,5 @@
-use Rattle.std.proofs.Common.{◌≡◌, ◌∙◌, ◌+◌, ◌<◌, length, arith}
-use Rattle.std.specs.List.{AllByRecursion, remove}
+use Rattle.std.proofs.Common.{◌≡◌, ◌+◌, ◌<◌, length, arith}
+use Rattle.std.specs.List.{remove}
 use Rattle.gv_logic.specs.Kept.{IsOpen}
 use Rattle.gv_solver.proofs.Derive.{clash_closed}
 use Rattle.gv_solver.proofs.Drop.{put_back_as, has_remove, rising_remove, range_remove, tight_less, tight_more}

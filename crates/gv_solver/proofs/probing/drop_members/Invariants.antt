@@ -1,4 +1,4 @@
-use Rattle.std.proofs.Common.{◌≡◌, ◌+◌, ◌-◌, ◌*◌, length, ◌<◌, ◌≤◌, ◌^◌, ℕ}
+use Rattle.std.proofs.Common.{◌-◌, length, ◌<◌, ◌≤◌, ◌^◌, ℕ}
 use Rattle.std.specs.List.{AllByRecursion, remove}
 use Rattle.gv_logic.specs.Kept.{Clashes, IsOpen, IsRising}
 use Rattle.gv_logic.specs.Partial.{Has}

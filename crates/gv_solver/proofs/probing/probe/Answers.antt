@@ -1,4 +1,4 @@
-use Rattle.std.proofs.Common.{◌∙◌, inl, inr}
+use Rattle.std.proofs.Common.{inl, inr}
 use Rattle.gv_trail.specs.Entries.{assignment}
 use Rattle.gv_solver.proofs.Grow.{within_self, all_off_more, open_at}
 use Rattle.gv_solver.proofs.probing.probe.Goals as goal

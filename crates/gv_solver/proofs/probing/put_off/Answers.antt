@@ -1,7 +1,5 @@
 use Rattle.std.proofs.Common.{arith}
-use Rattle.gv_trail.specs.Entries.{assignment}
-use Rattle.gv_solver.proofs.Grow.{puts_one, grows_none}
-use Rattle.gv_solver.proofs.Looks.{look_on, look_off}
+use Rattle.gv_solver.proofs.Grow.{puts_one}
 use Rattle.gv_solver.proofs.probing.put_off.Goals as goal
 
 pub returns-in-None-clause-grows : goal.returns-in-None-clause-grows

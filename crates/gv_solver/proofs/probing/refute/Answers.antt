@@ -1,5 +1,4 @@
-use Rattle.std.proofs.Common.{◌∙◌, ◌≤◌, ◌^◌, sym, arith}
-use Rattle.gv_solver.proofs.Derive.{clash_closed}
+use Rattle.std.proofs.Common.{◌∙◌, sym, arith}
 use Rattle.gv_solver.proofs.Drop.{rising_range, rising_small}
 use Rattle.gv_solver.proofs.Down.{ready_same}
 use Rattle.gv_solver.proofs.probing.refute.Goals as goal

@@ -1,4 +1,4 @@
-use Rattle.std.proofs.Common.{◌≡◌, ◌+◌, ◌∷◌, drop, get_or, inl, inr, refl, arith}
+use Rattle.std.proofs.Common.{◌≡◌, ◌+◌, ◌∷◌, drop, get_or, inl, inr, refl}
 use Rattle.gv_trail.specs.Entries.{assignment}
 use Rattle.gv_solver.proofs.Core.{below_refl, below_trans}
 use Rattle.gv_solver.proofs.Grow.{rest_at, grows_more}

@@ -1,8 +1,7 @@
-use Rattle.std.proofs.Common.{◌≡◌, ◌∷◌, ◌∙◌, ℕ, List, subst}
+use Rattle.std.proofs.Common.{◌∷◌, subst}
 use Rattle.gv_logic.specs.Kept.{IsRising}
 use Rattle.gv_logic.specs.Partial.{Has}
 use Rattle.gv_solver.specs.Clash.{decided}
-use Rattle.gv_solver.specs.Rests.{rests_on}
 use Rattle.gv_solver.proofs.Drop.{rising_range}
 use Rattle.gv_solver.proofs.Down.{ready_same}
 use Rattle.gv_solver.proofs.Rest.{rests_clash, within_decided, rising_decided}

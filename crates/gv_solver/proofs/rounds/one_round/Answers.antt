@@ -1,4 +1,4 @@
-use Rattle.std.proofs.Common.{◌≡◌, ◌∙◌, ◌<◌, ◌≤◌, sym, ap, length, arith}
+use Rattle.std.proofs.Common.{◌≡◌, ◌∙◌, ◌<◌, sym, ap, length}
 use Rattle.gv_solver.proofs.Lessons.{work_more, work_count, work_ends, is_zero, not_zero}
 use Rattle.gv_solver.proofs.rounds.one_round.Goals as goal
 

@@ -1,4 +1,4 @@
-use Rattle.std.proofs.Common.{◌∙◌, ◌+◌, ◌*◌, ◌<◌, sym, arith}
+use Rattle.std.proofs.Common.{◌+◌, ◌*◌, ◌<◌, sym, arith}
 use Rattle.gv_trail.specs.Entries.{assignment}
 use Rattle.gv_solver.proofs.Down.{search_decide, search_settle, search_skip, ready_same}
 use Rattle.gv_solver.proofs.Grow.{puts_one}

@@ -1,10 +1,10 @@
-use Rattle.std.proofs.Common.{◌≡◌, ◌≤◌, length, refl, ap, arith}
+use Rattle.std.proofs.Common.{◌≤◌, length}
 use Rattle.gv_trail.specs.Entries.{assignment}
-use Rattle.gv_solver.specs.declared.rounds.Round.TheVariants.{Model, Empty, Kept, Full}
+use Rattle.gv_solver.specs.declared.rounds.Round.TheVariants.{Model, Empty, Full}
 use Rattle.gv_solver.specs.Proving.{AreOnByForce, Proves}
 use Rattle.gv_solver.specs.Rounds.{Rounds}
 use Rattle.gv_solver.specs.Work.{IsWork}
-use Rattle.gv_solver.proofs.Ends.{work_start, forced_from, least_model, spent, refuted}
+use Rattle.gv_solver.proofs.Ends.{forced_from, least_model, spent, refuted}
 use Rattle.gv_solver.proofs.Forced.{length-bits}
 use Rattle.gv_solver.proofs.solver.search.Goals as goal
 

@@ -1,4 +1,3 @@
-use Rattle.std.proofs.Common.{◌≡◌, sym}
 use Rattle.gv_logic.specs.Encoding.{formula_of}
 use Rattle.gv_solver.specs.Answers.{IsAnswer}
 use Rattle.gv_solver.proofs.Gates.{Laws, answers}

@@ -1,4 +1,4 @@
-use Rattle.std.proofs.Common.{◌≡◌, ◌∙◌, ◌*◌, ap, replicate, false}
+use Rattle.std.proofs.Common.{◌∙◌, ap}
 use Rattle.gv_trail.specs.Entries.{lits_of}
 use Rattle.gv_solver.specs.Replay.{replay_by}
 use Rattle.gv_solver.specs.Rests.{reasons}

@@ -1,4 +1,4 @@
-use Rattle.std.proofs.Common.{◌≡◌, ◌∙◌, ◌*◌, ◌<◌, ◌≤◌, ◌^◌, ap, sym, arith}
+use Rattle.std.proofs.Common.{◌*◌, arith}
 use Rattle.gv_solver.proofs.Drop.{rising_small}
 use Rattle.gv_solver.proofs.Lessons.{clause_range}
 use Rattle.gv_solver.proofs.rounds.Work.take_in.Goals as goal
