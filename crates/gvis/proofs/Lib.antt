@@ -1,5 +1,7 @@
 mod Examples
+pub mod KeyOrder
 pub mod LeastLaw
+pub mod ReportOrderLaw
 pub mod TrialLaw
 mod Worlds
 pub mod AssignmentLemmas

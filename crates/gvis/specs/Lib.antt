@@ -16,5 +16,6 @@ pub mod RepoReports
 pub mod ReportLaws
 pub mod ReportOrder
 pub mod ReportText
+pub mod Reports
 pub mod States
 pub mod Visible

@@ -23,7 +23,7 @@ pub use facts::{
     Rules, Status,
 };
 pub use judging::{JudgeFault, report_text};
-pub use laws::least_of_all_assignments;
+pub use laws::{least_of_all_assignments, reports_in_order};
 pub use report::{ContextName, Keyword, Report, Subject};
 use std::process::ExitCode;
 
