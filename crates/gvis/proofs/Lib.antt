@@ -7,6 +7,7 @@ pub mod DescKeys
 pub mod FirstFailing
 pub mod Gains
 pub mod IndexLemmas
+pub mod KeyOrder
 pub mod LeastLaw
 pub mod Listings
 pub mod Loads
@@ -14,6 +15,7 @@ pub mod Numbers
 pub mod Passing
 pub mod PathLemmas
 pub mod Readings
+pub mod ReportOrderLaw
 pub mod Scanned
 pub mod TreeMaps
 pub mod TrialLaw

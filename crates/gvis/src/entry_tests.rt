@@ -1,7 +1,7 @@
 //! Entries and their reports, line by line.
 use crate::{
     EntryRead, JudgeFault, Members, Profile, Profiles, Repo, Rule, Rules, Status,
-    least_of_all_assignments, read_entry, report_text,
+    least_of_all_assignments, read_entry, report_text, reports_in_order,
 };
 use gv_base::Text;
 use std::alloc::Global;
@@ -135,5 +135,6 @@ fn entries_give_these_lines(rt: HostRuntime) -> Result<(), Fail> {
         assert!(rt; got.bytes() == want);
     }
     least_of_all_assignments();
+    reports_in_order();
     Ok(())
 }

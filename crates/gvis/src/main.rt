@@ -47,10 +47,10 @@ pub use facts::{
 pub use faults::LoadFault;
 use gv_base::{Ledger, NoMemory, Steps, Text, Texts};
 pub use judging::{JudgeFault, report_text};
+pub use laws::{least_of_all_assignments, reports_in_order};
 pub use loading::load;
 use real::{FsStore, FsTree, StdSink, StdSource};
 pub use refusal::Refusal;
-pub use laws::least_of_all_assignments;
 pub use report::{ContextName, Keyword, Report, Subject};
 pub use running::run;
 use std::alloc::Global;
