@@ -159,12 +159,7 @@ struct LeastCase<'a> {
     want: bool,
 }
 
-fn least<'a>(
-    what: &'a str,
-    on: &'a [bool],
-    steps: &'a [Written<'a>],
-    want: bool,
-) -> LeastCase<'a> {
+fn least<'a>(what: &'a str, on: &'a [bool], steps: &'a [Written<'a>], want: bool) -> LeastCase<'a> {
     LeastCase {
         what,
         on,

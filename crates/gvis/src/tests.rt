@@ -569,11 +569,15 @@ fn writes_in_pieces_up_to_a_fault(rt: HostRuntime) {
 fn perform_large(rt: &impl Abort, alloc: Global) -> Result<(), NoMemory> {
     let large = vec![in alloc; b'#'; 16_777_217]?;
     let mut script = begin(alloc, Files::new(alloc))?;
-    script.files.put(b"profiles/profiles.desc", b"amd64 base stable\n")?;
+    script
+        .files
+        .put(b"profiles/profiles.desc", b"amd64 base stable\n")?;
     script.files.put(b"profiles/categories", &large[1..])?;
     expect(rt, alloc, &script, 0);
     script.files.put(b"profiles/categories", &large)?;
-    script.err.append(b"gvis: not built: profiles/categories\n")?;
+    script
+        .err
+        .append(b"gvis: not built: profiles/categories\n")?;
     expect(rt, alloc, &script, 9);
     Ok(())
 }
