@@ -3,7 +3,7 @@ ghost use Rattle.std.specs.Prelude.{◌≡◌};
 
 use crate::run;
 use gv_base::{
-    Calls, Cut, Files, Ledger, MemSink, MemSource, MemStore, MemTree, NoMemory, Steps, Text, Texts,
+    Calls, Cut, Files, Ledger, MemSink, MemSource, MemStore, MemTree, Steps, Text, Texts,
     next_piece,
 };
 use std::alloc::Global;
@@ -29,18 +29,46 @@ struct Script {
     err: Text,
 }
 
-fn begin(alloc: Global, files: Files) -> Result<Script, NoMemory> {
-    Ok(Script {
-        files,
-        path: Text::of(alloc, b"")?,
-        words: Text::of(alloc, b"scan R --certs C")?,
+fn text<R: Abort>(rt: &R, alloc: Global, bytes: &[u8]) -> Text {
+    Text::of(alloc, bytes).expect(rt, "memory")
+}
+
+fn append<R: Abort>(rt: &R, text: &mut Text, bytes: &[u8]) {
+    text.append(bytes).expect(rt, "memory");
+}
+
+fn put<R: Abort>(rt: &R, files: &mut Files, path: &[u8], bytes: &[u8]) {
+    files.put(path, bytes).expect(rt, "memory");
+}
+
+fn same<R: Abort>(rt: &R, got: &[u8], want: &[u8]) {
+    assert_eq!(rt; got, want);
+}
+
+fn begin<R: Abort>(rt: &R, alloc: Global) -> Script {
+    Script {
+        files: Files::new(alloc),
+        path: text(rt, alloc, b""),
+        words: text(rt, alloc, b"scan R --certs C"),
         most: 4096,
         tree_fails: 0,
         out_fails: 0,
         err_fails: 0,
-        out: Text::of(alloc, b"")?,
-        err: Text::of(alloc, b"")?,
-    })
+        out: text(rt, alloc, b""),
+        err: text(rt, alloc, b""),
+    }
+}
+
+// All but the files.
+fn forget<R: Abort>(rt: &R, alloc: Global, script: &mut Script) {
+    script.path = text(rt, alloc, b"");
+    script.words = text(rt, alloc, b"scan R --certs C");
+    script.most = 4096;
+    script.tree_fails = 0;
+    script.out_fails = 0;
+    script.err_fails = 0;
+    script.out = text(rt, alloc, b"");
+    script.err = text(rt, alloc, b"");
 }
 
 fn number(digits: &[u8]) -> u32 {
@@ -53,141 +81,135 @@ fn number(digits: &[u8]) -> u32 {
     number
 }
 
-fn add_line(alloc: Global, script: &mut Script, line: &[u8]) -> Result<(), NoMemory> {
-    let mut bytes = match script.files.get(script.path.bytes()) {
-        Some(bytes) => Text::of(alloc, bytes)?,
-        None => Text::of(alloc, b"")?,
-    };
-    bytes.append(line)?;
-    bytes.append(b"\n")?;
-    script.files.put(script.path.bytes(), bytes.bytes())
+fn add_line<R: Abort>(rt: &R, alloc: Global, script: &mut Script, line: &[u8]) {
+    let before = script
+        .files
+        .get(script.path.bytes())
+        .unwrap_or(b"".as_slice());
+    let mut bytes = text(rt, alloc, before);
+    append(rt, &mut bytes, line);
+    append(rt, &mut bytes, b"\n");
+    put(rt, &mut script.files, script.path.bytes(), bytes.bytes());
 }
 
-fn begin_file(alloc: Global, script: &mut Script, path: &[u8]) -> Result<(), NoMemory> {
-    script.path = Text::of(alloc, path)?;
-    script.files.put(path, b"")
+fn begin_file<R: Abort>(rt: &R, alloc: Global, script: &mut Script, path: &[u8]) {
+    script.path = text(rt, alloc, path);
+    put(rt, &mut script.files, path, b"");
 }
 
-fn words_of(alloc: Global, script: &mut Script, line: &[u8]) -> Result<(), NoMemory> {
-    script.words = Text::of(alloc, line)?;
-    Ok(())
-}
-
-fn add_output(text: &mut Text, line: &[u8]) -> Result<(), NoMemory> {
+fn add_output<R: Abort>(rt: &R, text: &mut Text, line: &[u8]) {
     match line {
-        [front @ .., b'~'] => text.append(front),
+        [front @ .., b'~'] => append(rt, text, front),
         _ => {
-            text.append(line)?;
-            text.append(b"\n")
+            append(rt, text, line);
+            append(rt, text, b"\n");
         }
     }
 }
 
 // Takes a line that says what a run has.
-fn take(alloc: Global, script: &mut Script, line: &[u8]) -> Result<(), NoMemory> {
+fn take<R: Abort>(rt: &R, alloc: Global, script: &mut Script, line: &[u8]) {
     match line {
-        [b'@', path @ ..] => begin_file(alloc, script, path)?,
-        [b'|', rest @ ..] => add_line(alloc, script, rest)?,
-        [b'$', b' ', rest @ ..] => words_of(alloc, script, rest)?,
-        [b'>', b' ', rest @ ..] => add_output(&mut script.out, rest)?,
-        [b'!', b' ', rest @ ..] => add_output(&mut script.err, rest)?,
+        [b'@', path @ ..] => begin_file(rt, alloc, script, path),
+        [b'|', rest @ ..] => add_line(rt, alloc, script, rest),
+        [b'$', b' ', rest @ ..] => script.words = text(rt, alloc, rest),
+        [b'>', b' ', rest @ ..] => add_output(rt, &mut script.out, rest),
+        [b'!', b' ', rest @ ..] => add_output(rt, &mut script.err, rest),
         [b'm', b' ', digits @ ..] => script.most = number(digits),
         [b't', b' ', digits @ ..] => script.tree_fails = number(digits),
         [b'o', b' ', digits @ ..] => script.out_fails = number(digits),
         [b'e', b' ', digits @ ..] => script.err_fails = number(digits),
         _ => {}
     }
-    Ok(())
 }
 
-fn calls(alloc: Global, number: u32) -> Result<Calls, NoMemory> {
+fn calls<R: Abort>(rt: &R, alloc: Global, number: u32) -> Calls {
     let mut calls = Calls::new(alloc);
     if number != 0 {
-        calls.add(number)?;
+        calls.add(number).expect(rt, "memory");
     }
-    Ok(calls)
+    calls
 }
 
 // The pieces between spaces, empty ones among them; no word where there is no byte.
-fn split(alloc: Global, line: &[u8]) -> Result<Texts, NoMemory> {
+fn split<R: Abort>(rt: &R, alloc: Global, line: &[u8]) -> Texts {
     let mut words = Texts::new(alloc);
-    if line.is_empty() {
-        return Ok(words);
+    let mut rest = if line.is_empty() { None } else { Some(line) };
+    for _ in 0..10 {
+        if let Some(word) = next_piece(&mut rest, Cut::Words) {
+            words.add(text(rt, alloc, word)).expect(rt, "memory");
+        }
     }
-    let mut rest = Some(line);
-    while let Some(word) = next_piece(&mut rest, Cut::Words) {
-        words.add(Text::of(alloc, word)?)?;
-    }
-    Ok(words)
+    words
 }
 
-// The status, and what stands on out and on err.
-fn run_on<L: Ledger>(
-    alloc: Global,
-    blank: Blank,
-    script: &Script,
-) -> Result<(u8, Text, Text), NoMemory>
+fn tree_of<R: Abort>(rt: &R, alloc: Global, script: &Script) -> MemTree {
+    let files = script.files.copy(alloc).expect(rt, "memory");
+    MemTree::new(files, calls(rt, alloc, script.tree_fails))
+}
+
+fn sink_of<R: Abort>(rt: &R, alloc: Global, most: u32, fails: u32) -> MemSink {
+    MemSink::new(alloc, most.max(1), calls(rt, alloc, fails))
+}
+
+// Runs, and compares the status and what stands on out and on err.
+fn run_on<L: Ledger, R: Abort>(rt: &R, alloc: Global, blank: Blank, script: &Script, status: u32)
     requires name { blank.name ≡ L.name }
     requires parts { blank.parts ≡ L.parts }
     requires two { blank.parts ≡ 2 }
 {
-    let words = split(alloc, script.words.bytes())?;
-    let mut tree = MemTree::new(script.files.copy(alloc)?, calls(alloc, script.tree_fails)?);
+    let words = split(rt, alloc, script.words.bytes());
+    let mut tree = tree_of(rt, alloc, script);
     let mut store = MemStore::new(Files::new(alloc), Calls::new(alloc));
-    let mut input = MemSource::new(Text::of(alloc, b"")?, 1, Calls::new(alloc));
-    let most = script.most.max(1);
-    let mut out = MemSink::new(alloc, most, calls(alloc, script.out_fails)?);
-    let mut err = MemSink::new(alloc, most, calls(alloc, script.err_fails)?);
+    let mut input = MemSource::new(text(rt, alloc, b""), 1, Calls::new(alloc));
+    let mut out = sink_of(rt, alloc, script.most, script.out_fails);
+    let mut err = sink_of(rt, alloc, script.most, script.err_fails);
     let mut steps = Steps::<L>::open(blank);
-    let status = run(
+    let got = run(
         alloc, &words, &mut tree, &mut store, &mut input, &mut out, &mut err, &mut steps,
     );
-    Ok((
-        status,
-        Text::of(alloc, out.held())?,
-        Text::of(alloc, err.held())?,
-    ))
+    same(rt, err.held(), script.err.bytes());
+    same(rt, out.held(), script.out.bytes());
+    assert_eq!(rt; got as u32, status);
 }
 
-fn expect(rt: &impl Abort, alloc: Global, script: &Script, status: u32) {
-    match run_on::<Brand>(alloc, Blank::new(2), script) {
-        Ok((got, out, err)) => {
-            assert_eq!(rt; err.bytes(), script.err.bytes());
-            assert_eq!(rt; out.bytes(), script.out.bytes());
-            assert_eq!(rt; got as u32, status);
+fn expect<R: Abort>(rt: &R, alloc: Global, script: &Script, status: u32) {
+    run_on::<Brand, R>(rt, alloc, Blank::new(2), script, status);
+}
+
+// Performs a line, and answers whether it was a run.
+fn performs<R: Abort>(rt: &R, alloc: Global, script: &mut Script, line: &[u8]) -> bool {
+    match line {
+        [b'=', b' ', digits @ ..] => {
+            expect(rt, alloc, script, number(digits));
+            forget(rt, alloc, script);
+            true
         }
-        Err(_) => {
-            assert!(rt; false, "out of memory");
+        [b'n', b'e', b'w'] => {
+            script.files = Files::new(alloc);
+            forget(rt, alloc, script);
+            false
+        }
+        _ => {
+            take(rt, alloc, script, line);
+            false
         }
     }
 }
 
-// Performs the lines, and answers how many runs there were.
-fn perform(rt: &impl Abort, alloc: Global, lines: &[u8]) -> Result<u32, NoMemory> {
-    let mut script = begin(alloc, Files::new(alloc))?;
+// Performs the lines, of which there are these many runs.
+fn perform<R: Abort>(rt: &R, alloc: Global, lines: &[u8], want: u32) {
+    let mut script = begin(rt, alloc);
     let mut runs: u32 = 0;
     let mut rest = Some(lines);
-    while let Some(line) = next_piece(&mut rest, Cut::Lines) {
-        match line {
-            [b'=', b' ', digits @ ..] => {
-                expect(rt, alloc, &script, number(digits));
+    for _ in 0..1000 {
+        if let Some(line) = next_piece(&mut rest, Cut::Lines) {
+            if performs(rt, alloc, &mut script, line) {
                 runs = runs.saturating_add(1);
-                script = forget(alloc, script)?;
             }
-            [b'n', b'e', b'w'] => script = begin_anew(alloc)?,
-            _ => take(alloc, &mut script, line)?,
         }
     }
-    Ok(runs)
-}
-
-fn begin_anew(alloc: Global) -> Result<Script, NoMemory> {
-    begin(alloc, Files::new(alloc))
-}
-
-// All but the files.
-fn forget(alloc: Global, script: Script) -> Result<Script, NoMemory> {
-    begin(alloc, script.files)
+    assert_eq!(rt; runs, want);
 }
 
 // No package; an atom without a package; a dependency that is only tested, behind a flag; the same with the flag masked.
@@ -537,53 +559,48 @@ e 1\n\
 
 #[test]
 fn prints_the_worked_reports(rt: HostRuntime) {
-    let runs = perform(&rt, rt.alloc(), worked());
-    assert!(rt; matches!(&runs, Ok(4)));
+    perform(&rt, rt.alloc(), worked(), 4);
 }
 
 #[test]
 fn refuses_at_the_first_place(rt: HostRuntime) {
-    let runs = perform(&rt, rt.alloc(), refusals());
-    assert!(rt; matches!(&runs, Ok(13)));
+    perform(&rt, rt.alloc(), refusals(), 13);
 }
 
 #[test]
 fn refuses_words_of_another_form(rt: HostRuntime) {
-    let runs = perform(&rt, rt.alloc(), wordlists());
-    assert!(rt; matches!(&runs, Ok(14)));
+    perform(&rt, rt.alloc(), wordlists(), 14);
 }
 
 #[test]
 fn names_the_call_of_the_tree_that_failed(rt: HostRuntime) {
-    let runs = perform(&rt, rt.alloc(), faults());
-    assert!(rt; matches!(&runs, Ok(21)));
+    perform(&rt, rt.alloc(), faults(), 21);
 }
 
 #[test]
 fn writes_in_pieces_up_to_a_fault(rt: HostRuntime) {
-    let runs = perform(&rt, rt.alloc(), pieces());
-    assert!(rt; matches!(&runs, Ok(4)));
+    perform(&rt, rt.alloc(), pieces(), 4);
 }
 
-// A file of one byte more than is read, and one byte less.
-fn perform_large(rt: &impl Abort, alloc: Global) -> Result<(), NoMemory> {
-    let large = vec![in alloc; b'#'; 16_777_217]?;
-    let mut script = begin(alloc, Files::new(alloc))?;
-    script
-        .files
-        .put(b"profiles/profiles.desc", b"amd64 base stable\n")?;
-    script.files.put(b"profiles/categories", &large[1..])?;
-    expect(rt, alloc, &script, 0);
-    script.files.put(b"profiles/categories", &large)?;
-    script
-        .err
-        .append(b"gvis: not built: profiles/categories\n")?;
-    expect(rt, alloc, &script, 9);
-    Ok(())
-}
-
+// A file of one byte more than is read, and one of just as many.
 #[test]
 fn refuses_a_file_that_is_too_large(rt: HostRuntime) {
-    let done = perform_large(&rt, rt.alloc());
-    assert!(rt; done.is_ok());
+    let alloc = rt.alloc();
+    let large = vec![in alloc; b'#'; 16_777_217].expect(&rt, "memory");
+    let mut script = begin(&rt, alloc);
+    put(
+        &rt,
+        &mut script.files,
+        b"profiles/profiles.desc",
+        b"amd64 base stable\n",
+    );
+    put(&rt, &mut script.files, b"profiles/categories", &large[1..]);
+    expect(&rt, alloc, &script, 0);
+    put(&rt, &mut script.files, b"profiles/categories", &large);
+    append(
+        &rt,
+        &mut script.err,
+        b"gvis: not built: profiles/categories\n",
+    );
+    expect(&rt, alloc, &script, 9);
 }
