@@ -3,22 +3,22 @@ use crate::{
     EntryRead, JudgeFault, Members, Profile, Profiles, Repo, Rule, Rules, Status,
     least_of_all_assignments, read_entry, report_text, reports_in_order,
 };
-use gv_base::Text;
+use gv_base::{NoMemory, Text};
 use std::alloc::Global;
-use std::test::Fail;
+use std::process::Abort;
 
 type Entry<'a> = (&'a [u8], &'a [u8], u64, &'a [u8], &'a [u8]);
 
-fn text(alloc: Global, bytes: &[u8]) -> Result<Text, Fail> {
-    Ok(Text::of(alloc, bytes).ok().ok_or("memory")?)
+fn text(alloc: Global, bytes: &[u8]) -> Result<Text, NoMemory> {
+    Text::of(alloc, bytes)
 }
 
 // The profile `amd64 base stable` that masks these flags, and `x86 new exp`.
-fn profiles(alloc: Global, masks: &[&[u8]]) -> Result<Profiles, Fail> {
+fn profiles(alloc: Global, masks: &[&[u8]]) -> Result<Profiles, NoMemory> {
     let mut rules = Rules::new(alloc);
     for flag in masks {
         let flag = text(alloc, flag)?;
-        rules.add(Rule { flag, on: true }).ok().ok_or("memory")?;
+        rules.add(Rule { flag, on: true })?;
     }
     let mut profiles = Profiles::new(alloc);
     let base = Profile {
@@ -28,7 +28,7 @@ fn profiles(alloc: Global, masks: &[&[u8]]) -> Result<Profiles, Fail> {
         status: Status::Stable,
         rules,
     };
-    profiles.add(base).ok().ok_or("memory")?;
+    profiles.add(base)?;
     let new = Profile {
         line: 3,
         arch: text(alloc, b"x86")?,
@@ -36,20 +36,20 @@ fn profiles(alloc: Global, masks: &[&[u8]]) -> Result<Profiles, Fail> {
         status: Status::Exp,
         rules: Rules::new(alloc),
     };
-    profiles.add(new).ok().ok_or("memory")?;
+    profiles.add(new)?;
     Ok(profiles)
 }
 
 // The lines of the packages that are read of these entries, or the place of a wide query behind `wide `.
-fn told(alloc: Global, entries: &[Entry<'_>], masks: &[&[u8]]) -> Result<Text, Fail> {
+fn told(alloc: Global, entries: &[Entry<'_>], masks: &[&[u8]]) -> Result<Text, NoMemory> {
     let mut members = Members::new(alloc);
     for (category, name, version, pf, bytes) in entries {
         let category = text(alloc, category)?;
         let name = text(alloc, name)?;
         let pf = text(alloc, pf)?;
         let read = read_entry(alloc, &category, &name, *version, &pf, bytes);
-        if let EntryRead::Package { member } = read.ok().ok_or("memory")? {
-            members.add(member).ok().ok_or("memory")?;
+        if let EntryRead::Package { member } = read? {
+            members.add(member)?;
         }
     }
     let repo = Repo {
@@ -60,10 +60,10 @@ fn told(alloc: Global, entries: &[Entry<'_>], masks: &[&[u8]]) -> Result<Text, F
         Ok(lines) => Ok(lines),
         Err(JudgeFault::Wide { place }) => {
             let mut told = text(alloc, b"wide ")?;
-            told.append(place.bytes()).ok().ok_or("memory")?;
+            told.append(place.bytes())?;
             Ok(told)
         }
-        Err(JudgeFault::NoMemory) => Err(Fail::from("memory")),
+        Err(JudgeFault::NoMemory) => Err(NoMemory),
     }
 }
 
@@ -81,60 +81,75 @@ const BOTH: &[u8] =
 const WIDE: &[u8] =
     b"EAPI=8\nSLOT=0\nKEYWORDS=amd64\nIUSE=a b c d e f g h i j k l m\nBDEPEND=a? ( ) b? ( ) c? ( ) d? ( ) e? ( ) f? ( ) g? ( ) h? ( ) i? ( ) j? ( ) k? ( ) l? ( ) m? ( )\n";
 
-#[test]
-fn entries_give_these_lines(rt: HostRuntime) -> Result<(), Fail> {
-    let alloc = rt.alloc();
-    let y: (&[u8], &[u8], u64, &[u8]) = (b"x", b"y", 1, b"y-1");
-    let p: (&[u8], &[u8], u64, &[u8]) = (b"app", b"p", 1, b"p-1");
-    let masks: &[&[u8]] = &[b"a"];
-    let cases: [(&[Entry<'_>], &[&[u8]], &[u8]); 7] = [
-        (&[], &[], b""),
-        (
-            &[(p.0, p.1, p.2, p.3, MISSING)],
-            &[],
-            b"app/p-1: NonsolvableDepsInStable: RDEPEND: amd64 base stable: USE=\"\": x/y\n",
-        ),
-        (
-            &[
-                (p.0, p.1, p.2, p.3, CONDITIONAL),
-                (y.0, y.1, y.2, y.3, TESTING),
-            ],
-            &[],
-            b"app/p-1: NonsolvableDepsInStable: RDEPEND: amd64 base stable: USE=\"a\": a? ( x/y )\n",
-        ),
-        (
-            &[
-                (p.0, p.1, p.2, p.3, CONDITIONAL),
-                (y.0, y.1, y.2, y.3, TESTING),
-            ],
-            masks,
-            b"",
-        ),
-        (
-            &[(p.0, p.1, p.2, p.3, MISSING), (y.0, y.1, y.2, y.3, SHOWN)],
-            &[],
-            b"",
-        ),
-        (
-            &[
-                (b"x", b"w", 10, b"w-10", BOTH),
-                (b"x", b"w", 9, b"w-9", BOTH),
-                (y.0, y.1, y.2, y.3, SHOWN),
-            ],
-            masks,
-            b"x/w-9: NonsolvableDepsInExp: DEPEND: x86 new stable: USE=\"-a -b\": !b? ( x/y )\nx/w-10: NonsolvableDepsInExp: DEPEND: x86 new stable: USE=\"-a -b\": !b? ( x/y )\n",
-        ),
-        (
-            &[(y.0, y.1, y.2, y.3, WIDE), (p.0, p.1, p.2, p.3, WIDE)],
-            &[],
-            b"wide app/p-1",
-        ),
-    ];
-    for (entries, masks, want) in cases {
-        let got = told(alloc, entries, masks)?;
-        assert!(rt; got.bytes() == want);
+fn shows<R: Abort>(rt: &R, alloc: Global, entries: &[Entry<'_>], masks: &[&[u8]], want: &[u8]) {
+    match told(alloc, entries, masks) {
+        Ok(got) => assert_eq!(rt; got.bytes(), want),
+        Err(_) => assert!(rt; false, "out of memory"),
     }
+}
+
+#[test]
+fn entries_give_these_lines(rt: HostRuntime) {
+    let alloc = rt.alloc();
+    shows(&rt, alloc, &[], &[], b"");
+    shows(
+        &rt,
+        alloc,
+        &[(b"app", b"p", 1, b"p-1", MISSING)],
+        &[],
+        b"app/p-1: NonsolvableDepsInStable: RDEPEND: amd64 base stable: USE=\"\": x/y\n",
+    );
+    shows(
+        &rt,
+        alloc,
+        &[
+            (b"app", b"p", 1, b"p-1", CONDITIONAL),
+            (b"x", b"y", 1, b"y-1", TESTING),
+        ],
+        &[],
+        b"app/p-1: NonsolvableDepsInStable: RDEPEND: amd64 base stable: USE=\"a\": a? ( x/y )\n",
+    );
+    shows(
+        &rt,
+        alloc,
+        &[
+            (b"app", b"p", 1, b"p-1", CONDITIONAL),
+            (b"x", b"y", 1, b"y-1", TESTING),
+        ],
+        &[b"a"],
+        b"",
+    );
+    shows(
+        &rt,
+        alloc,
+        &[
+            (b"app", b"p", 1, b"p-1", MISSING),
+            (b"x", b"y", 1, b"y-1", SHOWN),
+        ],
+        &[],
+        b"",
+    );
+    shows(
+        &rt,
+        alloc,
+        &[
+            (b"x", b"w", 10, b"w-10", BOTH),
+            (b"x", b"w", 9, b"w-9", BOTH),
+            (b"x", b"y", 1, b"y-1", SHOWN),
+        ],
+        &[b"a"],
+        b"x/w-9: NonsolvableDepsInExp: DEPEND: x86 new stable: USE=\"-a -b\": !b? ( x/y )\nx/w-10: NonsolvableDepsInExp: DEPEND: x86 new stable: USE=\"-a -b\": !b? ( x/y )\n",
+    );
+    shows(
+        &rt,
+        alloc,
+        &[
+            (b"x", b"y", 1, b"y-1", WIDE),
+            (b"app", b"p", 1, b"p-1", WIDE),
+        ],
+        &[],
+        b"wide app/p-1",
+    );
     least_of_all_assignments();
     reports_in_order();
-    Ok(())
 }

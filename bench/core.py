@@ -1,0 +1,300 @@
+#!/usr/bin/env python3
+"""Measures the core by which answers are checked, on programs made for that alone.
+
+    core.py check      `check` on a log of 100,000 steps over 100,000 clauses
+    core.py encode     `values` and `encode` on 100,000 gates of two operands
+    core.py solve      the solver on a question of 42 inputs, on 10,000 small ones, and on a random one of 60 inputs
+
+It copies the crates and a program that calls them into a folder of its own, has `rt run` prove and build that, runs it
+and prints what it says: microseconds, or for `solve` how many questions were refuted, found and spent. The questions
+are the same at each run.
+"""
+import os
+import random
+import shutil
+import subprocess
+import sys
+import tempfile
+import time
+
+TOP = os.path.dirname(os.path.dirname(os.path.abspath(__file__)))
+
+CHECK = """//! Times `check` on a chain of implications: variable 0 is on, and each is on where the one before is.
+#![tactic(auto)]
+
+ghost use Rattle.std.specs.Prelude.{◌≡◌, IfOk};
+
+use gv_base::NoMemory;
+use gv_logic::{Clause, Clauses, Lit};
+use gv_refute::{Hints, Log, Marks, Step, check};
+use std::alloc::Global;
+use std::io;
+use std::time::Instant;
+
+const COUNT: u32 = 100_000;
+
+fn chain(alloc: Global) -> Result<Clauses, NoMemory> {
+    let mut clauses = Clauses::new(alloc, COUNT);
+    let first = Clause::of(alloc, &[Lit(0)])?;
+    clauses.add(first)?;
+    for k in 1..COUNT {
+        let next = Clause::of(alloc, &[Lit(2 * k - 1), Lit(2 * k)])?;
+        clauses.add(next)?;
+    }
+    Ok(clauses)
+}
+
+// Step k says that variable k is on, by the step before and one clause.
+fn steps(alloc: Global) -> Result<Log, NoMemory> {
+    let mut log = Log::new(alloc);
+    log.add(Step { clause: Clause::of(alloc, &[Lit(0)])?, hints: Hints::of(alloc, &[0])? })?;
+    for k in 1..COUNT {
+        let clause = Clause::of(alloc, &[Lit(2 * k)])?;
+        let hints = Hints::of(alloc, &[COUNT + k - 1, k])?;
+        log.add(Step { clause, hints })?;
+    }
+    Ok(log)
+}
+
+fn timed(alloc: Global, rt: &HostRuntime) -> io::Result<()> {
+    let (Ok(clauses), Ok(log)) = (chain(alloc), steps(alloc)) else {
+        return Ok(());
+    };
+    let Ok(mut marks) = Marks::new(alloc, clauses.variables()) else {
+        return Ok(());
+    };
+    let start = Instant::now(rt)?;
+    let verdict = check(&clauses, &log, &mut marks);
+    let took = start.elapsed(rt)?;
+    println!(rt; "{verdict:?}: {} microseconds", took.as_micros())?;
+    Ok(())
+}
+
+fn main(rt: HostRuntime) -> io::Result<()> {
+    timed(rt.alloc(), &rt)
+}
+"""
+
+CHECK_PROOF = """use Rattle.std.proofs.Common.{◌≡◌}
+use Rattle.measure.proofs.chain.Given as goal
+
+abbrev pub invariant-loop-k : goal.invariant-loop-k
+invariant-loop-k l = l.clauses.variables ≡ 100000
+"""
+
+ENCODE = """//! Times `read_gates`, `values` and `encode` on gates that come in.
+#![tactic(auto)]
+
+use anyhow::{Context, Error};
+use gv_encode::encode;
+use gv_logic::{Bits, Gates, read_gates, values};
+use std::alloc::Global;
+use std::io::Read;
+use std::time::Instant;
+
+fn all_on(alloc: Global, gates: &Gates) -> Result<Bits, Error> {
+    let mut bits = Bits::new(alloc);
+    for _ in 0..gates.inputs() {
+        bits.add(true).ok().context("memory")?;
+    }
+    Ok(bits)
+}
+
+fn main(rt: HostRuntime) -> Result<(), Error> {
+    let alloc = rt.alloc();
+    let mut bytes = Vec::new(alloc);
+    rt.reader().read_to_end(&mut bytes)?;
+    let start = Instant::now(&rt)?;
+    let read = read_gates(alloc, &bytes).ok().context("memory")?;
+    let gates = read.context("no gates")?;
+    println!(rt; "read_gates: {} microseconds", start.elapsed(&rt)?.as_micros())?;
+    let bits = all_on(alloc, &gates)?;
+    if bits.items().len() == gates.inputs() as usize {
+        let start = Instant::now(&rt)?;
+        let _values = values(alloc, &gates, &bits).ok().context("memory")?;
+        println!(rt; "values: {} microseconds", start.elapsed(&rt)?.as_micros())?;
+    }
+    let start = Instant::now(&rt)?;
+    let _clauses = encode(alloc, &gates).ok().context("memory")?;
+    println!(rt; "encode: {} microseconds", start.elapsed(&rt)?.as_micros())?;
+    Ok(())
+}
+"""
+
+SOLVE = """//! Solves the questions that come in, each its length in four bytes and the gates' bytes, and prints how many were
+//! refuted, found and spent, with the steps of all logs and the kept sets of those that were spent.
+#![tactic(auto)]
+
+ghost use Rattle.std.specs.Prelude.{◌≡◌};
+
+use anyhow::{Context, Error};
+use gv_base::{Ledger, Steps};
+use gv_encode::encode;
+use gv_logic::read_gates;
+use gv_solver::{Answer, solve};
+use std::alloc::Global;
+use std::io::Read;
+use std::marker::Brand;
+use std::sync::ledger::Blank;
+
+// 0 refuted, 1 found, 2 spent; steps; sets.
+fn one<L: Ledger>(alloc: Global, question: &[u8], steps: &mut Steps<L>) -> Result<[u64; 3], Error> {
+    let read = read_gates(alloc, question).ok().context("memory")?;
+    let gates = read.context("no gates")?;
+    let clauses = encode(alloc, &gates).ok().context("memory")?;
+    let answer = solve(alloc, &gates, &clauses, 65536, steps).ok().context("memory")?;
+    Ok(match &answer {
+        Answer::Refuted { log } => [0, log.items().len() as u64, 0],
+        Answer::Found { log, .. } => [1, log.items().len() as u64, 0],
+        Answer::Spent { log, sets } => [2, log.items().len() as u64, sets.items().len() as u64],
+    })
+}
+
+fn number(bytes: &[u8], at: usize) -> usize {
+    let mut number: usize = 0;
+    for k in 0..4 {
+        let byte = bytes.get(at.wrapping_add(k)).copied().unwrap_or(0);
+        number = number.wrapping_mul(256).wrapping_add(byte as usize);
+    }
+    number
+}
+
+fn part(bytes: &[u8], from: usize, to: usize) -> &[u8] {
+    if from <= to && to <= bytes.len() { &bytes[from..to] } else { &[] }
+}
+
+fn run<L: Ledger>(rt: &HostRuntime, blank: Blank) -> Result<(), Error>
+    requires name { blank.name ≡ L.name }
+    requires parts { blank.parts ≡ L.parts }
+    requires two { blank.parts ≡ 2 }
+{
+    let alloc = rt.alloc();
+    let mut steps = Steps::<L>::open(blank);
+    let mut bytes = Vec::new(alloc);
+    rt.reader().read_to_end(&mut bytes)?;
+    let mut at: usize = 0;
+    let mut kinds = [0u64; 3];
+    let mut logged: u64 = 0;
+    let mut kept: u64 = 0;
+    for _ in 0..u64::MAX {
+        if at >= bytes.len() {
+            break;
+        }
+        let from = at.wrapping_add(4);
+        let to = from.wrapping_add(number(&bytes, at));
+        let [kind, length, sets] = one(alloc, part(&bytes, from, to), &mut steps)?;
+        for k in 0..3 {
+            if kind == k as u64 {
+                kinds[k] = kinds[k].wrapping_add(1);
+            }
+        }
+        logged = logged.wrapping_add(length);
+        kept = kept.wrapping_add(sets);
+        at = to;
+    }
+    let [refuted, found, spent] = kinds;
+    println!(rt; "refuted {refuted} found {found} spent {spent} steps {logged} sets {kept}")?;
+    Ok(())
+}
+
+fn main(rt: HostRuntime) -> Result<(), Error> {
+    run::<Brand>(&rt, Blank::new(2))
+}
+"""
+
+SOLVE_PROOF = """use Rattle.measure.proofs.main.Given as goal
+
+abbrev pub ghosts-run : goal.ghosts-run
+ghosts-run a = record { name = a.blank.name; parts = a.blank.parts }
+"""
+
+
+def number(n):
+    return n.to_bytes(4, "big")
+
+
+def circuit(inputs, gates, root):
+    """The canonical bytes of gates, each an operation (0 And, 1 Or) and its operands."""
+    out = number(inputs) + number(len(gates))
+    for op, operands in gates:
+        out += bytes([op]) + number(len(operands)) + b"".join(number(lit) for lit in operands)
+    return out + number(root)
+
+
+def all_of(inputs, groups):
+    """An And of Ors."""
+    gates = [(1, group) for group in groups]
+    gates.append((0, [2 * (inputs + n) for n in range(len(groups))]))
+    return circuit(inputs, gates, 2 * (inputs + len(groups)))
+
+
+def pairs():
+    """Twenty pairs of which one has to be on, and four groups over two more inputs that contradict one another."""
+    a, b = 80, 82
+    groups = [[4 * n, 4 * n + 2] for n in range(20)]
+    return all_of(42, groups + [[a, b], [a, b + 1], [a + 1, b], [a + 1, b + 1]])
+
+
+def random_groups(draw, inputs, count):
+    """So many groups of three different inputs, each as it is or its opposite."""
+    return all_of(inputs, [[2 * i + draw.randrange(2) for i in draw.sample(range(inputs), 3)] for _ in range(count)])
+
+
+def build(folder, source, proof, deps):
+    shutil.copytree(os.path.join(TOP, "crates"), os.path.join(folder, "crates"), ignore=shutil.ignore_patterns("out", "must-fail"))
+    with open(os.path.join(TOP, "crates.txt")) as f:
+        lines = f.read()
+    crate = os.path.join(folder, "crates", "measure")
+    os.makedirs(os.path.join(crate, "src"))
+    with open(os.path.join(folder, "crates.txt"), "w") as f:
+        f.write(lines + f"measure: {deps}\n")
+    with open(os.path.join(crate, "src/main.rt"), "w") as f:
+        f.write(source)
+    for path, text in proof.items():
+        os.makedirs(os.path.dirname(os.path.join(crate, path)), exist_ok=True)
+        with open(os.path.join(crate, path), "w") as f:
+            f.write(text)
+    done = subprocess.run(["rt", "run"], cwd=crate, stdin=subprocess.DEVNULL, capture_output=True, text=True)
+    program = os.path.join(crate, "out/measure")
+    if not os.path.exists(program):
+        sys.exit(done.stdout + done.stderr)
+    return program
+
+
+def timed(program, question):
+    start = time.perf_counter()
+    done = subprocess.run([program], input=question, capture_output=True)
+    took = time.perf_counter() - start
+    return done.stdout.decode().strip() + done.stderr.decode().strip(), took
+
+
+def question(gates):
+    return number(len(gates)) + gates
+
+
+def main(what):
+    draw = random.Random(1)
+    with tempfile.TemporaryDirectory() as folder:
+        if what == "check":
+            proof = {"proofs/chain/Invariants.antt": CHECK_PROOF}
+            print(timed(build(folder, CHECK, proof, "gv_base gv_logic gv_refute"), b"")[0])
+        elif what == "encode":
+            gates = [(draw.randrange(2), [2 * n, 2 * n + 3]) for n in range(100_000)]
+            print(timed(build(folder, ENCODE, {}, "gv_base gv_logic gv_encode anyhow"), circuit(2, gates, 2 * 100_001))[0])
+        else:
+            deps = "gv_base gv_logic gv_encode gv_refute gv_solver anyhow"
+            program = build(folder, SOLVE, {"proofs/main/Invariants.antt": SOLVE_PROOF}, deps)
+            small = b"".join(question(random_groups(draw, 6, 5)) for _ in range(10_000))
+            for name, questions in (
+                ("42 inputs", question(pairs())),
+                ("10,000 questions of 6 inputs and 5 groups", small),
+                ("60 inputs, 258 groups", question(random_groups(draw, 60, 258))),
+            ):
+                said, took = timed(program, questions)
+                print(f"{name}: {said}: {took:.3f} s")
+
+
+if __name__ == "__main__":
+    if sys.argv[1:] not in (["check"], ["encode"], ["solve"]):
+        sys.exit(__doc__)
+    main(sys.argv[1])
