@@ -1,0 +1,6 @@
+pub mod Quotes
+pub mod Names
+pub mod Found
+pub mod Meaning
+pub mod Steps
+pub mod Assignments

@@ -1,0 +1,7 @@
+//! make.defaults.
+#![tactic(auto)]
+
+mod cut;
+mod names;
+mod quotes;
+mod steps;
