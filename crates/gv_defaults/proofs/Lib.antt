@@ -1,3 +1,4 @@
 pub mod Lengths
 pub mod NameLemmas
 pub mod StepLemmas
+pub mod ItemLemmas

@@ -4,3 +4,4 @@ pub mod Found
 pub mod Meaning
 pub mod Steps
 pub mod Assignments
+pub mod Items

@@ -2,6 +2,7 @@
 #![tactic(auto)]
 
 mod cut;
+mod items;
 mod names;
 mod quotes;
 mod steps;

@@ -1,7 +1,7 @@
 //! Quotes in a value, byte by byte, and where the value ends.
 //!
 //! `value_len` costs O(the bytes of the value).
-ghost use Rattle.std.specs.Prelude.{◌≡◌, false, if◌then◌else◌};
+ghost use Rattle.std.specs.Prelude.{◌≡◌, ◌≤◌, false, length, if◌then◌else◌, IfSome};
 ghost use Rattle.gv_defaults.specs.Quotes.{is_space, quotes_after, escapes, ends, value_len};
 
 /// What a byte of a value stands in.
@@ -19,7 +19,8 @@ pub(crate) enum Quotes {
 /// where a quote isn't closed.
 #[tactic(auto, using(crate::proofs::Lengths::one_more))]
 pub(crate) fn value_len(bytes: &[u8]) -> Option<usize>
-    ensures { result ≡ value_len bytes.now }
+    ensures value { result ≡ value_len bytes.now }
+    ensures within { IfSome result (λ n. n ≤ length bytes.now) }
 {
     let mut quotes = Quotes::Bare;
     let mut taken = false;
