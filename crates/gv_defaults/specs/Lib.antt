@@ -5,3 +5,7 @@ pub mod Meaning
 pub mod Steps
 pub mod Assignments
 pub mod Items
+pub mod Incremental
+pub mod Settings
+pub mod Values
+pub mod LookUp

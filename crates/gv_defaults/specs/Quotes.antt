@@ -1,12 +1,14 @@
 -- Quotes in a value of make.defaults, byte by byte: which byte opens or closes them, which one takes the next byte along, and where the value ends.
-use Rattle.std.specs.Prelude.{ℕ, ◌==◌, suc, Bool, true, false, ◌||◌, if◌then◌else◌, List, [], ◌∷◌, Option, Some, None}
+use Rattle.std.specs.Prelude.{ℕ, ◌==◌, suc, Bool, true, false, if◌then◌else◌, List, [], ◌∷◌, Option, Some, None}
 use Rattle.std.specs.Option.{option_map}
+use Rattle.gv_base.specs.declared.pieces.Cut.TheVariants.{Tokens}
+use Rattle.gv_base.specs.Pieces.{separates}
 use Rattle.gv_defaults.specs.declared.quotes.Quotes.{Quotes}
 use Rattle.gv_defaults.specs.declared.quotes.Quotes.TheVariants.{Bare, Double, Single}
 
--- space, tab, carriage return and line feed
+-- space, tab, carriage return and line feed, as between the words of a value
 abbrev pub is_space : ℕ → Bool
-is_space b = b == 32 || (b == 9 || (b == 13 || b == 10))
+is_space b = separates Tokens b
 
 -- the quotes behind a byte that no backslash took along
 abbrev pub quotes_after : Quotes → ℕ → Quotes
