@@ -2,3 +2,4 @@ pub mod Lengths
 pub mod NameLemmas
 pub mod StepLemmas
 pub mod ItemLemmas
+pub mod ReadLemmas

@@ -9,3 +9,4 @@ pub mod Incremental
 pub mod Settings
 pub mod Values
 pub mod LookUp
+pub mod Reads

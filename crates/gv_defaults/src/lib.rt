@@ -1,6 +1,7 @@
 //! make.defaults.
 #![tactic(auto)]
 
+mod assigning;
 mod cut;
 mod items;
 mod meaning;
