@@ -3,3 +3,5 @@ pub mod NameLemmas
 pub mod StepLemmas
 pub mod ItemLemmas
 pub mod ReadLemmas
+pub mod FoldLemmas
+pub mod SetLemmas

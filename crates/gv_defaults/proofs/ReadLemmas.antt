@@ -8,6 +8,7 @@ use Rattle.std.specs.Ordering.{eq_by_cmp}
 use Rattle.std.specs.FinMap.{get, insert, empty, get-insert, get-empty}
 use Rattle.std.specs.Cmp.Lexicographic.{nat_list_cmp_total}
 use Rattle.std.proofs.lemmas.Map.Text.{is_eq-slice_cmp}
+use Rattle.std.proofs.lemmas.Slice.Eq.{bytes_eq-Decides}
 use Rattle.gv_base.specs.ByteMap.{ByteMap}
 use Rattle.gv_base.specs.Order.{byte_cmp}
 use Rattle.gv_defaults.specs.declared.items.Assigned.{Assigned}
@@ -25,18 +26,21 @@ use Rattle.gv_defaults.specs.Reads.{item_len, with_item, Keeps, IsLeft, IsReadin
 pub got : {X : Type 0} (map : ByteMap X) (name : List ℕ) (x : X) (q : List ℕ) → get (insert map name x) q ≡ cond (bytes_eq q name) (Some x) (get map q)
 got map name x q = get-insert nat_list_cmp_total map name x q ∙ ap (λ (b : Bool). cond b (Some x) (get map q)) (is_eq-slice_cmp q name)
 
+pub same_bytes : (x y : List ℕ) → bytes_eq x y ≡ true → x ≡ y
+same_bytes x y is = (bytes_eq-Decides x y).0 is
+
 -- a value means the same over the map
 same_meaning : (before : VarMap) (map : ByteMap (List ℕ)) (values : Values) (text : List ℕ) → Keeps map values →
-    meaning_of (stands_for map before) text ≡ meaning_of (looked_up (text_before before) values) text
+    meaning_of (stands_for map before) text ≡ meaning_of (looked_up (text_before (get before)) values) text
 same_meaning before map values text keeps =
-    ap (λ (look : List ℕ → List ℕ). meaning_of look text) (fun_ext (λ name. ap (λ (o : Option (List ℕ)). unwrap_or o (text_before before name)) (keeps name)))
+    ap (λ (look : List ℕ → List ℕ). meaning_of look text) (fun_ext (λ name. ap (λ (o : Option (List ℕ)). unwrap_or o (text_before (get before) name)) (keeps name)))
 
 keeps_more : (before : VarMap) (map : ByteMap (List ℕ)) (values : Values) (a : Assigned) → Keeps map values →
-    Keeps (with_item before map (Assigns a)) (with_value (text_before before) values (seen a))
+    Keeps (with_item before map (Assigns a)) (with_value (text_before (get before)) values (seen a))
 keeps_more before map values a keeps q =
     got map a.name.now (meaning_of (stands_for map before) a.text.now) q
     ∙ ap (λ (v : List ℕ). cond (bytes_eq q a.name.now) (Some v) (get map q)) (same_meaning before map values a.text.now keeps)
-    ∙ ap (λ (o : Option (List ℕ)). cond (bytes_eq q a.name.now) (Some (meaning_of (looked_up (text_before before) values) a.text.now)) o) (keeps q)
+    ∙ ap (λ (o : Option (List ℕ)). cond (bytes_eq q a.name.now) (Some (meaning_of (looked_up (text_before (get before)) values) a.text.now)) o) (keeps q)
 
 -- at the front of the file
 pub begins : (before : VarMap) (bytes : List ℕ) → IsLeft before bytes empty 1 bytes
@@ -52,7 +56,7 @@ goes_on before bytes map line rest (Gap len) n is long left =
     record {
       so_far = left.so_far;
       keeps = left.keeps;
-      gives = ap (λ (file : File). fold (with_value (text_before before)) left.so_far file.assignments) (sym reads) ∙ left.gives;
+      gives = ap (λ (file : File). fold (with_value (text_before (get before))) left.so_far file.assignments) (sym reads) ∙ left.gives;
       bad = ap (λ (file : File). file.bad) (sym reads) ∙ left.bad;
     }
 goes_on before bytes map line rest (Assigns a) n is long left =
@@ -60,9 +64,9 @@ goes_on before bytes map line rest (Assigns a) n is long left =
     let reads : read_on line zero rest ≡ with_first (seen a) (read_on (lines_after line (take n rest)) zero (drop n rest)) =
         subst (λ (k : ℕ). read_on line zero rest ≡ with_first (seen a) (read_on (lines_after line (take k rest)) zero (drop k rest))) same (is.reads line) in
     record {
-      so_far = with_value (text_before before) left.so_far (seen a);
+      so_far = with_value (text_before (get before)) left.so_far (seen a);
       keeps = keeps_more before map left.so_far a left.keeps;
-      gives = ap (λ (file : File). fold (with_value (text_before before)) left.so_far file.assignments) (sym reads) ∙ left.gives;
+      gives = ap (λ (file : File). fold (with_value (text_before (get before))) left.so_far file.assignments) (sym reads) ∙ left.gives;
       bad = ap (λ (file : File). file.bad) (sym reads) ∙ left.bad;
     }
 goes_on before bytes map line rest Fault n is long left = absurd (cc)
@@ -71,8 +75,8 @@ goes_on before bytes map line rest Fault n is long left = absurd (cc)
 finished : (before : VarMap) (bytes : List ℕ) (map : ByteMap (List ℕ)) (line : ℕ) (rest : List ℕ) (last : File) →
     IsLeft before bytes map line rest → read_on line zero rest ≡ last → last.assignments ≡ [] → IsReading before bytes map last.bad
 finished before bytes map line rest last left reads none =
-    let all : left.so_far ≡ values_of (text_before before) (file_of bytes).assignments =
-        ap (λ (as_ : List Assignment). fold (with_value (text_before before)) left.so_far as_) (sym (ap (λ (file : File). file.assignments) reads ∙ none)) ∙ left.gives in
+    let all : left.so_far ≡ values_of (text_before (get before)) (file_of bytes).assignments =
+        ap (λ (as_ : List Assignment). fold (with_value (text_before (get before))) left.so_far as_) (sym (ap (λ (file : File). file.assignments) reads ∙ none)) ∙ left.gives in
     record {
       keeps = λ name. left.keeps name ∙ ap (λ (values : Values). value_in values name) all;
       fault = ap (λ (file : File). file.bad) (sym reads) ∙ left.bad;

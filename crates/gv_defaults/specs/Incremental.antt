@@ -18,7 +18,7 @@ is_incremental name = has_text incremental_names name
 abbrev pub with_word : List (List ℕ) → List ℕ → List (List ℕ)
 with_word words [] = words
 with_word words (b ∷ bs) =
-    if b == 45 then (if bytes_eq bs (42 ∷ []) then [] else filter (λ w. not (bytes_eq bs w)) words)
+    if b == 45 then (if bytes_eq bs (42 ∷ []) then [] else filter (λ w. not (bytes_eq w bs)) words)
     else (if has_text words (b ∷ bs) then words else words ++ (b ∷ bs) ∷ [])
 
 -- words that are taken in order over those that were there

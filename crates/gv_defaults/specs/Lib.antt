@@ -10,3 +10,7 @@ pub mod Settings
 pub mod Values
 pub mod LookUp
 pub mod Reads
+pub mod Lasting
+pub mod Passed
+pub mod Indexed
+pub mod Defaults

@@ -31,10 +31,10 @@ Keeps map values = (name : List ℕ) → get map name ≡ value_in values name
 pub record IsLeft (before : VarMap) (bytes : List ℕ) (values : ByteMap (List ℕ)) (line : ℕ) (rest : List ℕ) : Type 0 where
   pub so_far : Values
   pub keeps : Keeps values so_far
-  pub gives : fold (with_value (text_before before)) so_far (read_on line zero rest).assignments ≡ values_of (text_before before) (file_of bytes).assignments
+  pub gives : fold (with_value (text_before (get before))) so_far (read_on line zero rest).assignments ≡ values_of (text_before (get before)) (file_of bytes).assignments
   pub bad : (read_on line zero rest).bad ≡ (file_of bytes).bad
 
 -- what was read of the whole file
 pub record IsReading (before : VarMap) (bytes : List ℕ) (values : ByteMap (List ℕ)) (bad : Option ℕ) : Type 0 where
-  pub keeps : Keeps values (values_of (text_before before) (file_of bytes).assignments)
+  pub keeps : Keeps values (values_of (text_before (get before)) (file_of bytes).assignments)
   pub fault : bad ≡ (file_of bytes).bad

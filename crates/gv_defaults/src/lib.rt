@@ -3,6 +3,8 @@
 
 mod assigning;
 mod cut;
+mod defaults;
+mod folding;
 mod items;
 mod meaning;
 mod names;
@@ -11,4 +13,5 @@ mod room;
 mod steps;
 mod vars;
 
+pub use defaults::{DefaultsRead, read_defaults};
 pub use vars::{Setting, Vars};
