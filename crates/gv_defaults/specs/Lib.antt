@@ -14,3 +14,6 @@ pub mod Lasting
 pub mod Passed
 pub mod Indexed
 pub mod Defaults
+pub mod ValueExamples
+pub mod FileExamples
+pub mod VarExamples
