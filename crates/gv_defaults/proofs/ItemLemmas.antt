@@ -32,7 +32,7 @@ comment bytes b behind n there not_space is len within = record {
   within = rw there (omega arith);
 }
 
-no_feed : (line b : ℕ) → is_space b ≡ false → line_after line b ≡ line
+pub no_feed : (line b : ℕ) → is_space b ≡ false → line_after line b ≡ line
 no_feed line b h = grind arith
 
 pub fault : (bytes : List ℕ) (b : ℕ) (behind : List ℕ) → bytes ≡ b ∷ behind → is_space b ≡ false → (b == 35) ≡ false → assignment_at bytes ≡ None → IsItem bytes Fault
@@ -40,7 +40,7 @@ fault bytes b behind there not_space plain none line =
     let none' = rw there at none in
     rw (there, not_space, plain, none') refl
 
-less : (n : ℕ) (bs : List ℕ) (b line : ℕ) → 0 < n → line_after line b ≡ line → read_on line (n - 1) bs ≡ read_on (lines_after line (take n (b ∷ bs))) zero (drop n (b ∷ bs))
+pub less : (n : ℕ) (bs : List ℕ) (b line : ℕ) → 0 < n → line_after line b ≡ line → read_on line (n - 1) bs ≡ read_on (lines_after line (take n (b ∷ bs))) zero (drop n (b ∷ bs))
 less zero bs b line some same = absurd (omega arith)
 less (suc n) bs b line some same =
     let e : suc n - 1 ≡ n = omega arith in

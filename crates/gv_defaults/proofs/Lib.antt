@@ -5,3 +5,4 @@ pub mod ItemLemmas
 pub mod ReadLemmas
 pub mod FoldLemmas
 pub mod SetLemmas
+pub mod WrittenLemmas

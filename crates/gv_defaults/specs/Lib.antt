@@ -17,3 +17,4 @@ pub mod Defaults
 pub mod ValueExamples
 pub mod FileExamples
 pub mod VarExamples
+pub mod Written

@@ -2,13 +2,15 @@
 //!
 //! `read_defaults` costs O(the bytes of the file, of its values and of the variables before it), and O(log n) comparisons
 //! for each name or word among n. Bytes that a value takes from the values of names count as often as they stand there.
-ghost use Rattle.std.specs.Prelude.{◌≡◌, List, ℕ, IfOk};
+ghost use Rattle.std.specs.Prelude.{◌≡◌, List, ℕ, IsTrue, IfOk};
 ghost use Rattle.std.specs.FinMap as finite;
 ghost use Rattle.gv_base.specs.ByteMap.{map_of};
 ghost use Rattle.gv_defaults.specs.Assignments.{file_of};
 ghost use Rattle.gv_defaults.specs.Defaults.{set_to, setting_after, vars_after};
 ghost use Rattle.gv_defaults.specs.Incremental.{is_incremental};
 ghost use Rattle.gv_defaults.specs.Settings.{set_over};
+ghost use Rattle.gv_defaults.specs.Values.{Values};
+ghost use Rattle.gv_defaults.specs.Written.{have_names, written, HasWritten};
 
 use crate::assigning::read_file;
 use crate::folding::with_words;
@@ -26,11 +28,20 @@ pub struct DefaultsRead {
     pub bad: Option<u32>,
 }
 
-/// Reads the bytes of a make.defaults over the variables that were set before it.
+/// Reads the bytes of a make.defaults over the variables that were set before it (PMS, profiles). The assignments before
+/// the first one that isn't of the form count, and nothing from there on does. Within the file the last assignment of a
+/// name counts; then each assigned name is folded, in byte order of names: the words of an incremental variable are taken
+/// in order over those before, the value of another one replaces what it was.
+///
+/// Want of memory is answered too where a value would have 2^32 bytes or more, and where a line's number has no room.
 pub fn read_defaults(alloc: Global, bytes: &[u8], before: &Vars) -> Result<DefaultsRead, NoMemory>
     ensures vars { IfOk result (λ read. read.vars ≡ vars_after before.now bytes.now) }
     ensures each { IfOk result (λ read. (name : List ℕ) → finite.get read.vars name ≡ setting_after (finite.get before.now) bytes.now name) }
     ensures bad { IfOk result (λ read. read.bad ≡ (file_of bytes.now).bad) }
+
+    // What is written in double quotes is read back, whatever bytes it has.
+    ensures written { (values : Values) → IsTrue (have_names values) → bytes.now ≡ written values
+        → IfOk result (λ read. HasWritten before.now values read.vars read.bad) }
 {
     let reading = read_file(alloc, bytes, before)?;
     let vars = fold_values(alloc, before, reading.values)?;
