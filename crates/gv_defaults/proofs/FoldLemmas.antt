@@ -1,6 +1,6 @@
 -- Words taken in order, and those of them that last.
-use Rattle.std.proofs.Common.{◌≡◌, ℕ, ◌+◌, ◌-◌, ◌<◌, ◌≤◌, suc, zero, Bool, true, false, not, ◌&&◌, ◌||◌, List, [], ◌∷◌, ◌++◌, length, get_or, drop, drop-cons, filter, append-nil, refl, sym, ap, subst, ◌∙◌, arith}
-use Rattle.std.specs.Prelude.{if◌then◌else◌, ◌==◌, fold}
+use Rattle.std.proofs.Common.{◌≡◌, ℕ, ◌-◌, ◌<◌, ◌≤◌, suc, Bool, true, false, not, ◌&&◌, ◌||◌, List, [], ◌∷◌, ◌++◌, length, get_or, drop, drop-cons, filter, append-nil, refl, sym, ap, subst, ◌∙◌, arith}
+use Rattle.std.specs.Prelude.{if◌then◌else◌, ◌==◌}
 use Rattle.std.specs.List.{list_any}
 use Rattle.std.specs.Str.{bytes_eq}
 use Rattle.std.specs.BTreeMap.{is_at}
@@ -91,6 +91,7 @@ added words before word = by (removed_by words word) (has_text before word) refl
     once : (a b : Bool) → removed_by words word ≡ a → left_by words (if b then before else before ++ word ∷ []) ≡ (if b then left_by words before else left_by words before ++ (if not a then word ∷ [] else []))
     once a true e = refl
     once a false e = filter-append (λ w. not (removed_by words w)) before (word ∷ []) ∙ ap (λ (r : Bool). left_by words before ++ (if not r then word ∷ [] else [])) e
+
     by : (a b : Bool) → removed_by words word ≡ a → has_text before word ≡ b →
         from_last (left_by words before) (if not a then lasting words ++ word ∷ [] else lasting words) ≡ from_last (left_by words (if b then before else before ++ word ∷ [])) (lasting words)
     by true true gone there = refl

@@ -1,16 +1,11 @@
 -- The items of a file.
-use Rattle.std.proofs.Common.{◌≡◌, ℕ, ◌+◌, ◌-◌, ◌<◌, ◌≤◌, zero, suc, Bool, true, false, List, [], ◌∷◌, ◌++◌, length, get_or, take, drop, refl, sym, ap, ◌∙◌, Some, None, drop-cons, add-one, arith, inl, inr}
-use Rattle.std.proofs.lemmas.Bool.{lt-ltb, ne_eqb, cases_lt}
-use Rattle.std.proofs.lemmas.List.{length-take-le, drop_all, take_all, length-drop}
-use Rattle.std.specs.Option.{option_map}
-use Rattle.std.specs.Prelude.{Option, if◌then◌else◌, ◌==◌}
+use Rattle.std.proofs.Common.{◌≡◌, ℕ, ◌+◌, ◌-◌, ◌<◌, ◌≤◌, zero, suc, true, false, List, [], ◌∷◌, length, take, drop, refl, sym, ap, ◌∙◌, None, add-one, arith}
+use Rattle.std.specs.Prelude.{◌==◌}
 use Rattle.gv_defaults.specs.declared.items.Assigned.{Assigned}
-use Rattle.gv_defaults.specs.declared.items.Item.{Item}
 use Rattle.gv_defaults.specs.declared.items.Item.TheVariants.{Gap, Assignment as Assigns, Fault}
-use Rattle.gv_defaults.specs.Names.{name_len}
-use Rattle.gv_defaults.specs.Quotes.{is_space, value_len}
-use Rattle.gv_defaults.specs.Assignments.{Assignment, File, size, behind_name, assignment_at, line_after, lines_after, comment_len, with_first, read_assignment, read_on}
-use Rattle.gv_defaults.specs.Items.{seen, IsAssigned, PassesOver, IsItem}
+use Rattle.gv_defaults.specs.Quotes.{is_space}
+use Rattle.gv_defaults.specs.Assignments.{size, assignment_at, line_after, lines_after, comment_len, with_first, read_on}
+use Rattle.gv_defaults.specs.Items.{seen, IsAssigned, IsItem}
 
 -- bytes that belong to what was read are passed over, line feeds counted
 pub passed_over : (line n : ℕ) (bytes : List ℕ) → read_on line n bytes ≡ read_on (lines_after line (take n bytes)) zero (drop n bytes)

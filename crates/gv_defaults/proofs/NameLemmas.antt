@@ -1,10 +1,9 @@
 -- A name in braces.
-use Rattle.std.proofs.Common.{◌≡◌, ℕ, ◌+◌, ◌<◌, ◌≤◌, zero, suc, List, [], ◌∷◌, length, get_or, take, drop, refl, sym, ap, ◌∙◌, Some, None, drop-cons, arith, inl, inr}
+use Rattle.std.proofs.Common.{◌≡◌, ℕ, ◌+◌, ◌<◌, suc, List, [], ◌∷◌, length, get_or, take, drop, refl, ap, ◌∙◌, Some, None, drop-cons, arith, inl, inr}
 use Rattle.std.proofs.lemmas.Bool.{lt-ltb, ne_eqb}
 use Rattle.std.proofs.lemmas.List.{length-take-le, drop_all}
-use Rattle.std.specs.Prelude.{Option, if◌then◌else◌, ◌⊎◌}
 use Rattle.std.proofs.lemmas.Bool.{cases_lt}
-use Rattle.gv_defaults.specs.Names.{Named, name_len, braced, braced_at}
+use Rattle.gv_defaults.specs.Names.{name_len, braced, braced_at}
 
 brace : (name rest : List ℕ) → 0 < length name → braced name (125 ∷ rest) ≡ Some (record { name = name; len = length name + 2 })
 brace name rest some = rw (lt-ltb 0 (length name) some) refl

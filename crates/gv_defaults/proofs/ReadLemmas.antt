@@ -1,10 +1,9 @@
 -- A file read item by item.
-use Rattle.std.proofs.Common.{◌≡◌, ℕ, ◌+◌, zero, Bool, true, false, cond, List, [], ◌∷◌, take, drop, refl, sym, ap, subst, ◌∙◌, Some, None, arith}
+use Rattle.std.proofs.Common.{◌≡◌, ℕ, zero, Bool, true, cond, List, [], take, drop, refl, sym, ap, subst, ◌∙◌, Some, None}
 use Rattle.std.proofs.Math.Path.{fun_ext}
 use Rattle.std.specs.Prelude.{Option, fold}
 use Rattle.std.specs.Option.{unwrap_or}
 use Rattle.std.specs.Str.{bytes_eq}
-use Rattle.std.specs.Ordering.{eq_by_cmp}
 use Rattle.std.specs.FinMap.{get, insert, empty, get-insert, get-empty}
 use Rattle.std.specs.Cmp.Lexicographic.{nat_list_cmp_total}
 use Rattle.std.proofs.lemmas.Map.Text.{is_eq-slice_cmp}
@@ -15,7 +14,7 @@ use Rattle.gv_defaults.specs.declared.items.Assigned.{Assigned}
 use Rattle.gv_defaults.specs.declared.items.Item.{Item}
 use Rattle.gv_defaults.specs.declared.items.Item.TheVariants.{Gap, Assignment as Assigns, Fault}
 use Rattle.gv_defaults.specs.Assignments.{Assignment, File, size, lines_after, with_first, read_on, file_of}
-use Rattle.gv_defaults.specs.Items.{seen, PassesOver, IsItem}
+use Rattle.gv_defaults.specs.Items.{seen, IsItem}
 use Rattle.gv_defaults.specs.LookUp.{text_before, stands_for}
 use Rattle.gv_defaults.specs.Meaning.{meaning_of}
 use Rattle.gv_defaults.specs.Settings.{VarMap}
@@ -52,7 +51,7 @@ pub goes_on : (before : VarMap) (bytes : List ℕ) (map : ByteMap (List ℕ)) (l
 goes_on before bytes map line rest (Gap len) n is long left =
     let same : len ≡ n = cc in
     let reads : read_on line zero rest ≡ read_on (lines_after line (take n rest)) zero (drop n rest) =
-        subst (λ (k : ℕ). read_on line zero rest ≡ read_on (lines_after line (take k rest)) zero (drop k rest)) same (is.reads line) in
+    subst (λ (k : ℕ). read_on line zero rest ≡ read_on (lines_after line (take k rest)) zero (drop k rest)) same (is.reads line) in
     record {
       so_far = left.so_far;
       keeps = left.keeps;
@@ -62,7 +61,7 @@ goes_on before bytes map line rest (Gap len) n is long left =
 goes_on before bytes map line rest (Assigns a) n is long left =
     let same : size (seen a) ≡ n = cc in
     let reads : read_on line zero rest ≡ with_first (seen a) (read_on (lines_after line (take n rest)) zero (drop n rest)) =
-        subst (λ (k : ℕ). read_on line zero rest ≡ with_first (seen a) (read_on (lines_after line (take k rest)) zero (drop k rest))) same (is.reads line) in
+    subst (λ (k : ℕ). read_on line zero rest ≡ with_first (seen a) (read_on (lines_after line (take k rest)) zero (drop k rest))) same (is.reads line) in
     record {
       so_far = with_value (text_before (get before)) left.so_far (seen a);
       keeps = keeps_more before map left.so_far a left.keeps;
@@ -76,7 +75,7 @@ finished : (before : VarMap) (bytes : List ℕ) (map : ByteMap (List ℕ)) (line
     IsLeft before bytes map line rest → read_on line zero rest ≡ last → last.assignments ≡ [] → IsReading before bytes map last.bad
 finished before bytes map line rest last left reads none =
     let all : left.so_far ≡ values_of (text_before (get before)) (file_of bytes).assignments =
-        ap (λ (as_ : List Assignment). fold (with_value (text_before (get before))) left.so_far as_) (sym (ap (λ (file : File). file.assignments) reads ∙ none)) ∙ left.gives in
+    ap (λ (as_ : List Assignment). fold (with_value (text_before (get before))) left.so_far as_) (sym (ap (λ (file : File). file.assignments) reads ∙ none)) ∙ left.gives in
     record {
       keeps = λ name. left.keeps name ∙ ap (λ (values : Values). value_in values name) all;
       fault = ap (λ (file : File). file.bad) (sym reads) ∙ left.bad;

@@ -5,7 +5,7 @@ use Rattle.std.specs.Option.{unwrap_or, is_some}
 use Rattle.std.specs.Str.{bytes_eq}
 use Rattle.std.specs.declared.cmp.Ordering.{Ordering}
 use Rattle.std.specs.declared.cmp.Ordering.TheVariants.{Less, Equal, Greater}
-use Rattle.std.specs.Ordering.{eq_by_cmp, is_eq, is_lt}
+use Rattle.std.specs.Ordering.{is_lt}
 use Rattle.std.specs.List.Sorted.{IsStrictlySortedBy}
 use Rattle.std.specs.Map.{keys_of}
 use Rattle.std.specs.FinMap.{get, insert, entries, entries_sorted, get-entries, same_map}
@@ -13,7 +13,7 @@ use Rattle.std.specs.FinMap.Entries.{find, below_all, is_sorted}
 use Rattle.std.specs.Cmp.Lexicographic.{nat_list_cmp_total}
 use Rattle.std.proofs.lemmas.Map.Lookups.{exact_bytes}
 use Rattle.std.proofs.lemmas.Map.Text.{is_eq-slice_cmp}
-use Rattle.gv_base.specs.ByteMap.{ByteMap, seen_entry, map_of}
+use Rattle.gv_base.specs.ByteMap.{seen_entry, map_of}
 use Rattle.gv_base.specs.Order.{byte_cmp, has_text, in_order}
 use Rattle.gv_base.proofs.ByteMaps.{Bytes, key_cmp, entries-map_of}
 use Rattle.gv_base.proofs.TextOrder.{in_order-has}

@@ -1,8 +1,6 @@
 -- One step in a value.
-use Rattle.std.proofs.Common.{◌≡◌, ℕ, ◌+◌, ◌-◌, ◌<◌, ◌≤◌, zero, suc, Bool, true, false, List, [], ◌∷◌, ◌++◌, length, take, drop, refl, sym, ap, ◌∙◌, Some, None, append-nil, arith}
-use Rattle.std.specs.Prelude.{Option, if◌then◌else◌}
+use Rattle.std.proofs.Common.{◌≡◌, ℕ, ◌+◌, ◌-◌, ◌<◌, ◌≤◌, zero, suc, true, false, List, [], ◌∷◌, length, drop, refl, ◌∙◌, Some, append-nil, arith}
 use Rattle.gv_defaults.specs.declared.quotes.Quotes.{Quotes}
-use Rattle.gv_defaults.specs.declared.quotes.Quotes.TheVariants.{Bare, Double, Single}
 use Rattle.gv_defaults.specs.declared.steps.Step.{Step}
 use Rattle.gv_defaults.specs.declared.steps.Meant.{Meant}
 use Rattle.gv_defaults.specs.Quotes.{quotes_after, escapes}

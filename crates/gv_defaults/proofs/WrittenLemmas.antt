@@ -1,25 +1,21 @@
 -- What is written in double quotes is read back.
-use Rattle.std.proofs.Common.{◌≡◌, ℕ, ◌+◌, ◌-◌, ◌<◌, ◌≤◌, zero, suc, Bool, true, false, cond, ◌&&◌, ◌||◌, List, [], ◌∷◌, ◌++◌, length, take, drop, refl, sym, ap, subst, ◌∙◌, Some, None, append-nil, append_assoc, length-append, arith}
-use Rattle.std.specs.Prelude.{Option, if◌then◌else◌, ◌==◌, nat_lt, fold}
+use Rattle.std.proofs.Common.{◌≡◌, ℕ, ◌+◌, ◌-◌, zero, suc, Bool, true, false, cond, ◌||◌, List, [], ◌∷◌, ◌++◌, length, take, drop, refl, sym, ap, ◌∙◌, Some, None, append-nil, append_assoc, length-append, arith}
+use Rattle.std.specs.Prelude.{if◌then◌else◌, ◌==◌, nat_lt, fold}
 use Rattle.std.specs.Option.{option_map}
-use Rattle.std.specs.List.{flat_map, list_all, prefix_len}
-use Rattle.std.specs.FinMap.{get}
+use Rattle.std.specs.List.{flat_map, prefix_len}
 use Rattle.std.proofs.lemmas.Bool.{and_parts, eqb-true}
-use Rattle.std.proofs.lemmas.List.Folds.{prefix_len-append}
-use Rattle.std.proofs.lemmas.List.{length-take}
 use Rattle.std.proofs.Math.Seq.{take-append_seam, drop-append_seam}
 use Rattle.gv_defaults.specs.declared.quotes.Quotes.{Quotes}
-use Rattle.gv_defaults.specs.declared.quotes.Quotes.TheVariants.{Bare, Double, Single}
+use Rattle.gv_defaults.specs.declared.quotes.Quotes.TheVariants.{Bare, Double}
 use Rattle.gv_defaults.specs.Quotes.{is_space, quotes_after, escapes, value_len, len_in}
 use Rattle.gv_defaults.specs.Names.{is_digit, is_name_byte, name_len}
-use Rattle.gv_defaults.specs.Meaning.{meaning, meaning_of, escaped, itself, is_dollar}
-use Rattle.gv_defaults.specs.Assignments.{Assignment, File, size, behind_name, assignment_at, line_after, lines_after, with_first, read_assignment, read_on, file_of}
+use Rattle.gv_defaults.specs.Meaning.{meaning, meaning_of, itself, is_dollar}
+use Rattle.gv_defaults.specs.Assignments.{Assignment, File, size, behind_name, assignment_at, line_after, lines_after, with_first, read_on, file_of}
 use Rattle.gv_defaults.specs.LookUp.{Before, text_before}
-use Rattle.gv_defaults.specs.Settings.{VarMap}
-use Rattle.gv_defaults.specs.Values.{Values, value_in, looked_up, with_value, values_of}
-use Rattle.gv_defaults.specs.Defaults.{set_to, values_after, setting_after}
+use Rattle.gv_defaults.specs.Values.{Values, looked_up, with_value}
+use Rattle.gv_defaults.specs.Defaults.{values_after}
 use Rattle.gv_defaults.specs.Written.{is_name, escape, quoted, written_before, written, have_names}
-use Rattle.gv_defaults.proofs.ItemLemmas.{passed_over, less, no_feed}
+use Rattle.gv_defaults.proofs.ItemLemmas.{less, no_feed}
 
 -- ---- where a quoted value ends
 two_more : (b : ℕ) (inner : List ℕ) → suc (suc (length inner + 1)) ≡ length (92 ∷ b ∷ inner) + 1
@@ -134,10 +130,11 @@ line_there line [] value rest is = absurd (cc)
 line_there line (b ∷ bs) value rest is =
     let plain : (is_space b ≡ false) × ((b == 35) ≡ false) = no_gap b (first_byte b bs is) in
     let n = size (quoted_assignment (b ∷ bs) value) in
-    let now = lines_after line (take n (quoted_line (b ∷ bs) value rest)) in
-    (line_after now 10,
-    opened line b bs value rest is plain.0 plain.1
-    ∙ ap (with_first (quoted_assignment (b ∷ bs) value)) (less n (quoted_line bs value rest) b line (omega arith) (no_feed line b plain.0) ∙ ap (λ (xs : List ℕ). read_on now zero xs) (dropped (b ∷ bs) value rest)))
+    let now = lines_after line (take n (quoted_line (b ∷ bs) value rest)) in (
+      line_after now 10,
+      opened line b bs value rest is plain.0 plain.1
+          ∙ ap (with_first (quoted_assignment (b ∷ bs) value)) (less n (quoted_line bs value rest) b line (omega arith) (no_feed line b plain.0) ∙ ap (λ (xs : List ℕ). read_on now zero xs) (dropped (b ∷ bs) value rest)),
+    )
 
 -- ---- the file
 pub record GoesOn (before : List ℕ → List ℕ) (so_far now : Values) (line : ℕ) (bytes rest : List ℕ) : Type 0 where

@@ -1,5 +1,5 @@
 -- The assignments of a make.defaults, and the line of the first that has no good form.
-use Rattle.std.specs.Prelude.{ℕ, ◌+◌, ◌-◌, ◌==◌, zero, suc, nat_lt, Bool, not, ◌&&◌, if◌then◌else◌, List, [], ◌∷◌, Option, Some, None, take, drop, length, fold}
+use Rattle.std.specs.Prelude.{ℕ, ◌+◌, ◌-◌, ◌==◌, zero, suc, nat_lt, not, ◌&&◌, if◌then◌else◌, List, [], ◌∷◌, Option, Some, None, take, drop, length, fold}
 use Rattle.std.specs.Option.{option_map}
 use Rattle.std.specs.List.{prefix_len}
 use Rattle.gv_defaults.specs.Quotes.{is_space, value_len}

@@ -1,5 +1,5 @@
 -- Files of assignments: what counts, and the line of the fault.
-use Rattle.std.specs.Prelude.{◌≡◌, ℕ, List, [], ◌∷◌, ◌++◌, Option, Some, None, refl, codes}
+use Rattle.std.specs.Prelude.{◌≡◌, ℕ, List, [], ◌∷◌, ◌++◌, Some, None, refl, codes}
 use Rattle.gv_defaults.specs.Assignments.{Assignment, File, file_of}
 
 abbrev good : List Assignment → File

@@ -1,9 +1,7 @@
 -- Incremental variables (PMS, profiles): a directory's words are folded into those of the directories before it.
 use Rattle.std.specs.Prelude.{ℕ, ◌==◌, Bool, not, if◌then◌else◌, List, [], ◌∷◌, ◌++◌, filter, fold, codes}
-use Rattle.std.specs.List.{list_any}
 use Rattle.std.specs.Str.{bytes_eq}
 use Rattle.gv_base.specs.Order.{has_text}
-use Rattle.gv_base.specs.Words.{tokens_of}
 
 unfoldable pub incremental_names : List (List ℕ)
 incremental_names =

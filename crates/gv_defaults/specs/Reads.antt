@@ -1,10 +1,10 @@
 -- What a file is read as, item by item, and what was read in the end.
-use Rattle.std.specs.Prelude.{◌≡◌, ℕ, List, [], Option, Some, None, zero, fold}
+use Rattle.std.specs.Prelude.{◌≡◌, ℕ, List, Option, Some, None, zero, fold}
 use Rattle.std.specs.FinMap.{get, insert}
 use Rattle.gv_base.specs.ByteMap.{ByteMap}
 use Rattle.gv_defaults.specs.declared.items.Item.{Item}
 use Rattle.gv_defaults.specs.declared.items.Item.TheVariants.{Gap, Assignment as Assigns, Fault}
-use Rattle.gv_defaults.specs.Assignments.{Assignment, size, read_on, file_of}
+use Rattle.gv_defaults.specs.Assignments.{size, read_on, file_of}
 use Rattle.gv_defaults.specs.Items.{seen}
 use Rattle.gv_defaults.specs.LookUp.{text_before, stands_for}
 use Rattle.gv_defaults.specs.Meaning.{meaning_of}

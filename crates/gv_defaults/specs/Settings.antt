@@ -1,5 +1,5 @@
 -- What variables are set to: words where they are incremental, else a text.
-use Rattle.std.specs.Prelude.{ℕ, if◌then◌else◌, List, [], Option, Some, None, refl}
+use Rattle.std.specs.Prelude.{ℕ, if◌then◌else◌, List, [], Option, Some, None}
 use Rattle.std.specs.Coded.{Coded}
 use Rattle.gv_base.specs.ByteMap.{ByteMap, coded_byte_map}
 use Rattle.gv_base.specs.Words.{tokens_of, joined}

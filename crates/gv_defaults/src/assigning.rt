@@ -51,7 +51,13 @@ pub(crate) fn read_file(alloc: Global, bytes: &[u8], before: &Vars) -> Result<Re
 }
 
 // Sets the value of an assignment; how many bytes the item at the front of the rest has, and none of a fault.
-fn assign(alloc: Global, values: &mut BTreeMap<Vec<u8>, Text>, before: &Vars, rest: &[u8], item: Item<'_>) -> Result<Option<usize>, NoMemory>
+fn assign(
+    alloc: Global,
+    values: &mut BTreeMap<Vec<u8>, Text>,
+    before: &Vars,
+    rest: &[u8],
+    item: Item<'_>,
+) -> Result<Option<usize>, NoMemory>
     requires { IsItem rest.now item }
     ensures len { IfOk result (λ len. len ≡ item_len item.entry) }
     ensures values { OnOk result (map_of values.new.entries ≡ with_item before.now (map_of values.old.entries) item.entry) }
@@ -68,7 +74,12 @@ fn assign(alloc: Global, values: &mut BTreeMap<Vec<u8>, Text>, before: &Vars, re
 }
 
 // Sets the value of a name, whether it has one or not.
-fn set_value(alloc: Global, values: &mut BTreeMap<Vec<u8>, Text>, name: &[u8], value: Text) -> Result<(), NoMemory>
+fn set_value(
+    alloc: Global,
+    values: &mut BTreeMap<Vec<u8>, Text>,
+    name: &[u8],
+    value: Text,
+) -> Result<(), NoMemory>
     ensures { OnOk result (map_of values.new.entries ≡ finite.insert (map_of values.old.entries) name.now value) }
 {
     let name = Vec::from_slice(alloc, name)?;

@@ -52,7 +52,11 @@ pub fn read_defaults(alloc: Global, bytes: &[u8], before: &Vars) -> Result<Defau
 }
 
 // The variables with each value set over what its name was set to before.
-fn fold_values(alloc: Global, before: &Vars, values: BTreeMap<Vec<u8>, Text>) -> Result<Vars, NoMemory>
+fn fold_values(
+    alloc: Global,
+    before: &Vars,
+    values: BTreeMap<Vec<u8>, Text>,
+) -> Result<Vars, NoMemory>
     ensures { IfOk result (λ vars. (name : List ℕ) → finite.get vars name ≡ set_to name (finite.get (map_of values.entries) name) (finite.get before.now name)) }
 {
     let mut vars = before.copy(alloc)?;

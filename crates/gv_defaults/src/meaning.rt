@@ -18,7 +18,12 @@ use std::alloc::Global;
 use std::collections::BTreeMap;
 
 /// What the text of a value stands for, where names stand for the values earlier in the file, else for those before it.
-pub(crate) fn meaning(alloc: Global, text: &[u8], values: &BTreeMap<Vec<u8>, Text>, before: &Vars) -> Result<Text, NoMemory>
+pub(crate) fn meaning(
+    alloc: Global,
+    text: &[u8],
+    values: &BTreeMap<Vec<u8>, Text>,
+    before: &Vars,
+) -> Result<Text, NoMemory>
     ensures { IfOk result (λ value. value ≡ meaning_of (stands_for (map_of values.now.entries) before.now) text.now) }
 {
     let mut value = Text::of(alloc, &[])?;
@@ -32,7 +37,13 @@ pub(crate) fn meaning(alloc: Global, text: &[u8], values: &BTreeMap<Vec<u8>, Tex
     Ok(value)
 }
 
-fn append_meant(alloc: Global, value: &mut Text, meant: Meant<'_>, values: &BTreeMap<Vec<u8>, Text>, before: &Vars) -> Result<(), NoMemory>
+fn append_meant(
+    alloc: Global,
+    value: &mut Text,
+    meant: Meant<'_>,
+    values: &BTreeMap<Vec<u8>, Text>,
+    before: &Vars,
+) -> Result<(), NoMemory>
     ensures { OnOk result (value.new ≡ value.old ++ meant_by (stands_for (map_of values.now.entries) before.now) meant.entry) }
 {
     match meant {
@@ -44,7 +55,13 @@ fn append_meant(alloc: Global, value: &mut Text, meant: Meant<'_>, values: &BTre
 }
 
 // What a name stands for.
-fn append_value(alloc: Global, value: &mut Text, name: &[u8], values: &BTreeMap<Vec<u8>, Text>, before: &Vars) -> Result<(), NoMemory>
+fn append_value(
+    alloc: Global,
+    value: &mut Text,
+    name: &[u8],
+    values: &BTreeMap<Vec<u8>, Text>,
+    before: &Vars,
+) -> Result<(), NoMemory>
     ensures { OnOk result (value.new ≡ value.old ++ stands_for (map_of values.now.entries) before.now name.now) }
 {
     match value_in(values, name) {

@@ -49,13 +49,8 @@ pub(crate) fn name_len(bytes: &[u8]) -> usize
 {
     match bytes.first() {
         None => 0,
-        Some(b) => {
-            if is_digit(*b) {
-                0
-            } else {
-                run_len(bytes)
-            }
-        }
+        Some(b) if is_digit(*b) => 0,
+        Some(_) => run_len(bytes),
     }
 }
 

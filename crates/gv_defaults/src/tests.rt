@@ -3,7 +3,12 @@ use gv_base::{NoMemory, Text};
 use std::alloc::{AllocError, Global};
 
 // The words of a name behind a file that is read over another one, joined by `|`, and the line of the file's fault.
-fn read_over(alloc: Global, before: &[u8], file: &[u8], name: &[u8]) -> Result<(Text, Option<u32>), NoMemory> {
+fn read_over(
+    alloc: Global,
+    before: &[u8],
+    file: &[u8],
+    name: &[u8],
+) -> Result<(Text, Option<u32>), NoMemory> {
     let unset = Vars::new(alloc);
     let first = read_defaults(alloc, before, &unset)?;
     let read = read_defaults(alloc, file, &first.vars)?;
@@ -14,31 +19,43 @@ fn read_over(alloc: Global, before: &[u8], file: &[u8], name: &[u8]) -> Result<(
 
 #[test]
 fn files_are_read_over_what_stood_before(rt: HostRuntime) -> Result<(), &'static str> {
-    let before = b"USE=\"b c\" P=\"p  q\"".as_slice();
+    let before = b"USE=b IUSE_IMPLICIT=\"b c\" P=\"p  q\"".as_slice();
     let rows: [(&[u8], &[u8], &[u8], Option<u32>); 20] = [
-        (b"", b"USE", b"b|c", None),
+        (b"", b"USE", b"b", None),
         (b"", b"P", b"p|q", None),
         (b"", b"A", b"", None),
-        (b"A=\"x y\"\nUSE=\"a ${A}\"\nUSE=\"$USE -b\"\n", b"USE", b"c|a|x|y", None),
+        (
+            b"A=\"x y\"\nUSE=\"a ${A}\"\nUSE=\"$USE -b\"",
+            b"USE",
+            b"a|x|y",
+            None,
+        ),
         (b"A=\"x y\"\nUSE=\"a ${A}\"\n", b"A", b"x|y", None),
         (b"B=\"x", b"B", b"", Some(1)),
-        (b"B=\"x", b"USE", b"b|c", Some(1)),
+        (b"B=\"x", b"USE", b"b", Some(1)),
         (b"# c\nA=1 \\\nB=2", b"A", b"1", Some(2)),
         (b"# c\nA=1 \\\nB=2", b"B", b"", Some(2)),
         (b"A='x\ny'\nexport A=1", b"A", b"x|y", Some(3)),
         (b"A=1\nA+=1", b"A", b"1", Some(2)),
         (b"A=1#x #y", b"A", b"1#x", None),
         (b"A=\"$P\"'$P'\\$P", b"A", b"p|q$P$P", None),
-        (b"A=\"$USE\"-${C}x$", b"A", b"b|c-x$", None),
+        (b"A=\"$IUSE_IMPLICIT\"-${C}x$", b"A", b"b|c-x$", None),
         (b"A=a\\ b\"\\\"\\\\\\$\\x\"\\", b"A", b"a|b\"\\$\\x\\", None),
         (b"USE=\"-b d b -* e -e\ne\"", b"USE", b"e", None),
-        (b"USE=\"-b d b\"", b"USE", b"c|d|b", None),
-        (b"USE=d USE=e", b"USE", b"b|c|e", None),
+        (
+            b"IUSE_IMPLICIT=\"-b d b\"",
+            b"IUSE_IMPLICIT",
+            b"c|d|b",
+            None,
+        ),
+        (b"USE=d USE=e", b"USE", b"b|e", None),
         (b"P=-p", b"P", b"-p", None),
         (b"ENV_UNSET=\"x -x y\"", b"ENV_UNSET", b"y", None),
     ];
     for (file, name, want, bad) in rows {
-        let (words, line) = read_over(rt.alloc(), before, file, name).ok().ok_or("no memory")?;
+        let (words, line) = read_over(rt.alloc(), before, file, name)
+            .ok()
+            .ok_or("no memory")?;
         assert!(rt; words.bytes() == want, "the words of a file");
         assert!(rt; line == bad, "the line of a fault");
     }
@@ -72,11 +89,15 @@ fn large_files_are_read(rt: HostRuntime) -> Result<(), &'static str> {
     let file = large_file(alloc).ok().ok_or("no memory")?;
     let rows: [(&[u8], &[u8]); 2] = [(b"N9999", b"0|9999"), (b"USE", b"w99999")];
     for (name, want) in rows {
-        let (words, line) = read_over(alloc, b"", file.as_bytes(), name).ok().ok_or("no memory")?;
+        let (words, line) = read_over(alloc, b"", file.as_bytes(), name)
+            .ok()
+            .ok_or("no memory")?;
         assert!(rt; words.bytes() == want, "the words of a large file");
         assert!(rt; line.is_none(), "a large file has no fault");
     }
-    let (doubled, _) = read_over(alloc, b"", file.as_bytes(), b"A").ok().ok_or("no memory")?;
+    let (doubled, _) = read_over(alloc, b"", file.as_bytes(), b"A")
+        .ok()
+        .ok_or("no memory")?;
     assert_eq!(rt; doubled.bytes().len(), 1_048_576);
     Ok(())
 }

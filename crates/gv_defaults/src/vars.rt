@@ -111,7 +111,12 @@ impl Vars {
 
     /// Adds what the name stands for at the end of a text: the words of an incremental variable joined by one space, the
     /// value of another, nothing of a name that isn't set.
-    pub(crate) fn append_text(&self, alloc: Global, name: &[u8], text: &mut Text) -> Result<(), NoMemory>
+    pub(crate) fn append_text(
+        &self,
+        alloc: Global,
+        name: &[u8],
+        text: &mut Text,
+    ) -> Result<(), NoMemory>
         ensures { OnOk result (text.new ≡ text.old ++ text_of (finite.get self.now name.now)) }
     {
         match self.get(name) {
