@@ -1,7 +1,7 @@
 -- A text and its first piece.
-use Rattle.std.proofs.Common.{◌≡◌, ℕ, ◌+◌, ◌-◌, ◌<◌, ◌≤◌, suc, true, false, not, cond, List, [], ◌∷◌, ◌++◌, length, take, drop, refl, sym, ap, ◌∙◌, append-nil, arith, length-drop}
+use Rattle.std.proofs.Common.{◌≡◌, ℕ, Bool, true, false, not, cond, ◌+◌, ◌-◌, ◌<◌, ◌≤◌, suc, List, [], ◌∷◌, ◌++◌, length, take, drop, refl, sym, ap, ◌∙◌, append-nil, arith, length-drop}
 use Rattle.std.proofs.lemmas.List.{take_all}
-use Rattle.std.specs.List.{prefix_len, onto_first, join_with_byte}
+use Rattle.std.specs.List.{prefix_len, onto_first, join_with_byte, list_any, list_all}
 use Rattle.gv_base.specs.declared.pieces.Cut.{Cut}
 use Rattle.gv_base.specs.Pieces.{separates, pieces}
 use Rattle.gv_base.specs.Words.{each_behind}
@@ -57,3 +57,35 @@ few_pieces cut (b ∷ bs) =
 pub join_first : (byte : ℕ) (first : List ℕ) (rest : List (List ℕ)) → first ++ each_behind byte rest ≡ join_with_byte byte (first ∷ rest)
 join_first byte first [] = append-nil first
 join_first byte first (text ∷ texts) = ap (λ bytes. first ++ byte ∷ bytes) (join_first byte text texts)
+
+-- there is at least one piece
+pub some_piece : (cut : Cut) (bytes : List ℕ) → 0 < length (pieces cut bytes)
+some_piece cut [] = omega arith
+some_piece cut (b ∷ bs) = by (separates cut b) (pieces cut bs)
+  where
+    by : (t : Bool) (ps : List (List ℕ)) → 0 < length (cond t ([] ∷ ps) (onto_first b ps))
+    by true ps = omega arith
+    by false [] = omega arith
+    by false (p ∷ ps) = omega arith
+
+-- no separator is left in a piece
+pub pieces-clean : (cut : Cut) (bytes : List ℕ) → list_all (λ piece. not (list_any (separates cut) piece)) (pieces cut bytes) ≡ true
+pieces-clean cut [] = refl
+pieces-clean cut (b ∷ bs) = by (separates cut b) refl (pieces cut bs) (pieces-clean cut bs)
+  where
+    by : (t : Bool) → separates cut b ≡ t → (ps : List (List ℕ)) → list_all (λ piece. not (list_any (separates cut) piece)) ps ≡ true
+        → list_all (λ piece. not (list_any (separates cut) piece)) (cond t ([] ∷ ps) (onto_first b ps)) ≡ true
+    by true is ps h = h
+    by false is [] h = rw is refl
+    by false is (p ∷ ps) h = rw is h
+
+-- the pieces between line feeds, or between slashes, give the text again when they are joined by that byte
+pub pieces-joined : (cut : Cut) (byte : ℕ) → ((b : ℕ) → separates cut b ≡ true → b ≡ byte) → (bytes : List ℕ) → join_with_byte byte (pieces cut bytes) ≡ bytes
+pieces-joined cut byte one [] = refl
+pieces-joined cut byte one (b ∷ bs) = by (separates cut b) (one b) (pieces cut bs) (some_piece cut bs) (pieces-joined cut byte one bs)
+  where
+    by : (t : Bool) → (t ≡ true → b ≡ byte) → (ps : List (List ℕ)) → 0 < length ps → join_with_byte byte ps ≡ bs → join_with_byte byte (cond t ([] ∷ ps) (onto_first b ps)) ≡ b ∷ bs
+    by t is [] some h = absurd (omega arith)
+    by true is (p ∷ ps) some h = rw (is refl, h) refl
+    by false is (p ∷ []) some h = ap (λ rest. b ∷ rest) h
+    by false is (p ∷ q ∷ ps) some h = ap (λ rest. b ∷ rest) h

@@ -1,6 +1,7 @@
 //! What lies below a path of a file map.
 //!
-//! Both calls go through the files below the path alone: O(k log n) for k of them among n.
+//! Among n files, `is_folder` costs O(log n) comparisons of paths, and `names_below` O(k log n) for the k files below the
+//! path; neither goes through the other files. Both make two keys, so they take memory.
 ghost use Rattle.std.specs.Prelude.{◌≡◌, ◌==◌, ◌≤◌, length, IfOk};
 ghost use Rattle.std.specs.List.{position_or_len};
 ghost use Rattle.std.specs.Option.{option_copied};

@@ -1,7 +1,7 @@
 //! A text cut into pieces: lines, words, tokens or the parts of a path.
 //!
 //! `next_piece` costs the bytes of the piece that it takes off, so a text is cut in O(its bytes); nothing is copied.
-ghost use Rattle.std.specs.Prelude.{◌≡◌, ◌∷◌, ◌≤◌, [], not, length, MatchOption};
+ghost use Rattle.std.specs.Prelude.{◌≡◌, ◌∷◌, ◌≤◌, [], not, length, IfNone, MatchOption};
 ghost use Rattle.std.specs.List.{prefix_len};
 ghost use Rattle.gv_base.specs.Pieces.{is_blank, separates, pieces, left};
 
@@ -21,7 +21,8 @@ pub enum Cut {
 /// Takes the first piece off, and answers `None` exactly where no piece is left. A text has one piece more than it has
 /// separators, so an empty text has one, which is empty; behind the last piece `rest` is `None`.
 pub fn next_piece<'a>(rest: &mut Option<&'a [u8]>, cut: Cut) -> Option<&'a [u8]>
-    ensures { MatchOption result (left cut rest.old ≡ []) (λ piece. left cut rest.old ≡ piece.now ∷ left cut rest.new) }
+    ensures taken { MatchOption result (left cut rest.old ≡ []) (λ piece. left cut rest.old ≡ piece.now ∷ left cut rest.new) }
+    ensures end { IfNone result (left cut rest.new ≡ []) }
 {
     match *rest {
         None => None,
