@@ -1,4 +1,4 @@
--- What a make.defaults makes of the variables (PMS, profiles).
+-- What a make.defaults makes of the variables (PMS chapter 5).
 use Rattle.std.specs.Prelude.{ℕ, List, [], Option, Some, None, fold}
 use Rattle.std.specs.Option.{unwrap_or}
 use Rattle.std.specs.FinMap.{get, insert}

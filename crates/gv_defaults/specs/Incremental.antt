@@ -1,4 +1,4 @@
--- Incremental variables (PMS, profiles): a directory's words are folded into those of the directories before it.
+-- Incremental variables (PMS chapter 5): a directory's words are folded into those of the directories before it.
 use Rattle.std.specs.Prelude.{ℕ, ◌==◌, Bool, not, if◌then◌else◌, List, [], ◌∷◌, ◌++◌, filter, fold, codes}
 use Rattle.std.specs.Str.{bytes_eq}
 use Rattle.gv_base.specs.Order.{has_text}

@@ -1,4 +1,4 @@
-//! The first byte of a text.
+//! The first byte of a text, in O(1).
 ghost use Rattle.std.specs.Prelude.{◌≡◌, ◌∷◌, [], MatchOption};
 
 /// The first byte and those behind it.

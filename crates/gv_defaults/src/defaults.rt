@@ -28,7 +28,7 @@ pub struct DefaultsRead {
     pub bad: Option<u32>,
 }
 
-/// Reads the bytes of a make.defaults over the variables that were set before it (PMS, profiles). The assignments before
+/// Reads the bytes of a make.defaults over the variables that were set before it (PMS chapter 5). The assignments before
 /// the first one that isn't of the form count, and nothing from there on does. Within the file the last assignment of a
 /// name counts; then each assigned name is folded, in byte order of names: the words of an incremental variable are taken
 /// in order over those before, the value of another one replaces what it was.

@@ -1,4 +1,6 @@
 //! The room of a text.
+//!
+//! `append_within` costs O(the bytes that are added) on average.
 ghost use Rattle.std.specs.Prelude.{◌≡◌, ◌++◌, OnOk};
 
 use gv_base::{NoMemory, Text};

@@ -87,17 +87,17 @@ fn large_file(alloc: Global) -> Result<String, AllocError> {
 fn large_files_are_read(rt: HostRuntime) -> Result<(), &'static str> {
     let alloc = rt.alloc();
     let file = large_file(alloc).ok().ok_or("no memory")?;
-    let rows: [(&[u8], &[u8]); 2] = [(b"N9999", b"0|9999"), (b"USE", b"w99999")];
-    for (name, want) in rows {
-        let (words, line) = read_over(alloc, b"", file.as_bytes(), name)
-            .ok()
-            .ok_or("no memory")?;
-        assert!(rt; words.bytes() == want, "the words of a large file");
-        assert!(rt; line.is_none(), "a large file has no fault");
-    }
-    let (doubled, _) = read_over(alloc, b"", file.as_bytes(), b"A")
+    let unset = Vars::new(alloc);
+    let read = read_defaults(alloc, file.as_bytes(), &unset)
         .ok()
         .ok_or("no memory")?;
-    assert_eq!(rt; doubled.bytes().len(), 1_048_576);
+    assert!(rt; read.bad.is_none(), "a large file has no fault");
+    let rows: [(&[u8], usize, usize); 3] = [(b"N9999", 2, 6), (b"USE", 1, 6), (b"A", 1, 1_048_576)];
+    for (name, count, bytes) in rows {
+        let words = read.vars.words(alloc, name).ok().ok_or("no memory")?;
+        let text = words.joined(alloc, b'|').ok().ok_or("no memory")?;
+        assert_eq!(rt; words.items().len(), count);
+        assert_eq!(rt; text.bytes().len(), bytes);
+    }
     Ok(())
 }
