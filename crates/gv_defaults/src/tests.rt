@@ -1,0 +1,103 @@
+use crate::{Vars, read_defaults};
+use gv_base::{NoMemory, Text};
+use std::alloc::{AllocError, Global};
+
+// The words of a name behind a file that is read over another one, joined by `|`, and the line of the file's fault.
+fn read_over(
+    alloc: Global,
+    before: &[u8],
+    file: &[u8],
+    name: &[u8],
+) -> Result<(Text, Option<u32>), NoMemory> {
+    let unset = Vars::new(alloc);
+    let first = read_defaults(alloc, before, &unset)?;
+    let read = read_defaults(alloc, file, &first.vars)?;
+    let copy = read.vars.copy(alloc)?;
+    let words = copy.words(alloc, name)?;
+    Ok((words.joined(alloc, b'|')?, read.bad))
+}
+
+#[test]
+fn files_are_read_over_what_stood_before(rt: HostRuntime) -> Result<(), &'static str> {
+    let before = b"USE=b IUSE_IMPLICIT=\"b c\" P=\"p  q\"".as_slice();
+    let rows: [(&[u8], &[u8], &[u8], Option<u32>); 20] = [
+        (b"", b"USE", b"b", None),
+        (b"", b"P", b"p|q", None),
+        (b"", b"A", b"", None),
+        (
+            b"A=\"x y\"\nUSE=\"a ${A}\"\nUSE=\"$USE -b\"",
+            b"USE",
+            b"a|x|y",
+            None,
+        ),
+        (b"A=\"x y\"\nUSE=\"a ${A}\"\n", b"A", b"x|y", None),
+        (b"B=\"x", b"B", b"", Some(1)),
+        (b"B=\"x", b"USE", b"b", Some(1)),
+        (b"# c\nA=1 \\\nB=2", b"A", b"1", Some(2)),
+        (b"# c\nA=1 \\\nB=2", b"B", b"", Some(2)),
+        (b"A='x\ny'\nexport A=1", b"A", b"x|y", Some(3)),
+        (b"A=1\nA+=1", b"A", b"1", Some(2)),
+        (b"A=1#x #y", b"A", b"1#x", None),
+        (b"A=\"$P\"'$P'\\$P", b"A", b"p|q$P$P", None),
+        (b"A=\"$IUSE_IMPLICIT\"-${C}x$", b"A", b"b|c-x$", None),
+        (b"A=a\\ b\"\\\"\\\\\\$\\x\"\\", b"A", b"a|b\"\\$\\x\\", None),
+        (b"USE=\"-b d b -* e -e\ne\"", b"USE", b"e", None),
+        (
+            b"IUSE_IMPLICIT=\"-b d b\"",
+            b"IUSE_IMPLICIT",
+            b"c|d|b",
+            None,
+        ),
+        (b"USE=d USE=e", b"USE", b"b|e", None),
+        (b"P=-p", b"P", b"-p", None),
+        (b"ENV_UNSET=\"x -x y\"", b"ENV_UNSET", b"y", None),
+    ];
+    for (file, name, want, bad) in rows {
+        let (words, line) = read_over(rt.alloc(), before, file, name)
+            .ok()
+            .ok_or("no memory")?;
+        assert!(rt; words.bytes() == want, "the words of a file");
+        assert!(rt; line == bad, "the line of a fault");
+    }
+    Ok(())
+}
+
+// Ten thousand names, a hundred thousand words of which all but the last are removed again, and a value that is doubled
+// twenty times.
+fn large_file(alloc: Global) -> Result<String, AllocError> {
+    let mut file = String::new(alloc);
+    for i in 0..10_000u32 {
+        file.push_str(&format!(in alloc; "N{i}=\"$N0 {i}\"\n")?)?;
+    }
+    file.push_str("USE=\"")?;
+    for i in 0..100_000u32 {
+        file.push_str(&format!(in alloc; "w{i} ")?)?;
+    }
+    for i in 0..99_999u32 {
+        file.push_str(&format!(in alloc; "-w{i} ")?)?;
+    }
+    file.push_str("\"\nA=x\n")?;
+    for _ in 0..20 {
+        file.push_str("A=$A$A\n")?;
+    }
+    Ok(file)
+}
+
+#[test]
+fn large_files_are_read(rt: HostRuntime) -> Result<(), &'static str> {
+    let alloc = rt.alloc();
+    let file = large_file(alloc).ok().ok_or("no memory")?;
+    let unset = Vars::new(alloc);
+    let read = read_defaults(alloc, file.as_bytes(), &unset)
+        .ok()
+        .ok_or("no memory")?;
+    assert!(rt; read.bad.is_none(), "a large file has no fault");
+    let rows: [(&[u8], usize, usize); 3] = [(b"N9999", 2, 6), (b"USE", 1, 6), (b"A", 1, 1_048_576)];
+    for (name, count, bytes) in rows {
+        let words = read.vars.words(alloc, name).ok().ok_or("no memory")?;
+        let text = words.joined(alloc, b'|').ok().ok_or("no memory")?;
+        assert_eq!(rt; words.items().len(), count);
+        assert_eq!(rt; text.bytes().len(), bytes);
+    }
+    Ok(())
+}
