@@ -272,6 +272,44 @@ def question(gates):
     return number(len(gates)) + gates
 
 
+def dimacs(gates):
+    """The clauses of gates in the form that other solvers read; variables are places, from 1."""
+    at = 0
+
+    def take():
+        nonlocal at
+        at += 4
+        return int.from_bytes(gates[at - 4 : at], "big")
+
+    def word(lit):
+        return str(-(lit // 2 + 1) if lit % 2 else lit // 2 + 1)
+
+    inputs, count = take(), take()
+    clauses = []
+    for place in range(inputs, inputs + count):
+        op, at = gates[at], at + 1
+        operands = [take() for _ in range(take())]
+        one = 2 * place + (1 - op)
+        clauses += [[one, lit ^ op] for lit in operands]
+        clauses.append([one ^ 1] + [lit ^ 1 ^ op for lit in operands])
+    clauses.append([take()])
+    lines = [f"p cnf {inputs + count} {len(clauses)}"]
+    return "\n".join(lines + [" ".join(word(lit) for lit in clause) + " 0" for clause in clauses]) + "\n"
+
+
+def beside(gates):
+    """The same clauses by the solvers of Debian's packages, where they are installed."""
+    for solver in ("minisat", "picosat"):
+        if shutil.which(solver):
+            with tempfile.NamedTemporaryFile("w", suffix=".cnf") as f:
+                f.write(dimacs(gates))
+                f.flush()
+                start = time.perf_counter()
+                status = subprocess.run([solver, f.name], capture_output=True).returncode
+                said = {10: "satisfiable", 20: "unsatisfiable"}.get(status, f"status {status}")
+                print(f"  {solver}: {said}: {time.perf_counter() - start:.3f} s")
+
+
 def main(what):
     draw = random.Random(1)
     with tempfile.TemporaryDirectory() as folder:
@@ -285,13 +323,16 @@ def main(what):
             deps = "gv_base gv_logic gv_encode gv_refute gv_solver anyhow"
             program = build(folder, SOLVE, {"proofs/main/Invariants.antt": SOLVE_PROOF}, deps)
             small = b"".join(question(random_groups(draw, 6, 5)) for _ in range(10_000))
-            for name, questions in (
-                ("42 inputs", question(pairs())),
-                ("10,000 questions of 6 inputs and 5 groups", small),
-                ("60 inputs, 258 groups", question(random_groups(draw, 60, 258))),
+            hard = random_groups(draw, 60, 258)
+            for name, questions, gates in (
+                ("42 inputs", question(pairs()), pairs()),
+                ("10,000 questions of 6 inputs and 5 groups", small, None),
+                ("60 inputs, 258 groups", question(hard), hard),
             ):
                 said, took = timed(program, questions)
                 print(f"{name}: {said}: {took:.3f} s")
+                if gates:
+                    beside(gates)
 
 
 if __name__ == "__main__":
