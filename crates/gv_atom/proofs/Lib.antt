@@ -1,2 +1,21 @@
-pub mod AtomLaw
-pub mod OneText
+mod AtomLaw
+mod DivisionLaw
+mod Ends
+mod Examples
+mod ItemLaw
+mod ItemsLaw
+mod Lacks
+mod LastByte
+mod PfLaw
+mod Pieces
+mod PrintedItems
+mod ReadAgain
+mod SlotLaw
+mod Splitting
+mod VersionBytes
+mod WrittenDivision
+mod WrittenItem
+mod WrittenItems
+mod WrittenLaw
+mod WrittenNames
+mod WrittenSlot

@@ -1,2 +1,9 @@
+pub mod AtomFaults
+pub mod AtomMatch
+pub mod AtomNaming
+pub mod AtomPrinting
 pub mod AtomRead
+pub mod AtomReading
 pub mod AtomText
+pub mod Laws
+pub mod UseItems

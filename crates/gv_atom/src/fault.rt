@@ -1,3 +1,7 @@
+//! Why bytes are no atom.
+ghost use Rattle.std.specs.Prelude.{Some};
+ghost use Rattle.gv_atom.specs.AtomReading.{IsPartFault};
+
 use gv_base::NoMemory;
 
 /// The part of an atom that is bad.
@@ -27,5 +31,15 @@ impl From<NoMemory> for AtomFault {
 
     fn from(_refused: NoMemory) -> AtomFault {
         AtomFault::NoMemory
+    }
+}
+
+/// The fault of a part that begins at this place. A place past 32 bits finds no memory.
+pub(crate) fn bad(kind: AtomKind, at: usize) -> AtomFault
+    ensures { IsPartFault (Some (kind, at)) result }
+{
+    match u32::try_from(at) {
+        Ok(at) => AtomFault::Bad { kind, at },
+        Err(_) => AtomFault::NoMemory,
     }
 }

@@ -1,96 +1,62 @@
-//! Reading and printing atoms. O(bytes).
-ghost use Rattle.std.specs.Prelude.{◌≡◌, ◌≤◌, length, Some, None, IfOk, IfErr, MatchOption};
-ghost use Rattle.std.specs.List.{list_all, position_or_len};
+//! Reading an atom. O(bytes).
+ghost use Rattle.std.specs.Prelude.{◌≡◌, ◌<◌, ◌^◌, None, Some, IfOk, IfErr};
 ghost use Rattle.gv_atom.specs.declared.atom.Atom.{Atom};
-ghost use Rattle.gv_atom.specs.AtomText.{atom_text, is_plain_byte, is_plain_name, IsAtomOf};
-ghost use Rattle.gv_atom.specs.AtomRead.{atom_behind, is_slash, read_atom, GivesAtom, IsNoAtom};
+ghost use Rattle.gv_atom.specs.AtomText.{IsAtomOf};
+ghost use Rattle.gv_atom.specs.AtomRead.{atom_in, division_fault, read_atom};
+ghost use Rattle.gv_atom.specs.AtomFaults.{GivesAtom, IsFaultOf};
+ghost use Rattle.gv_atom.specs.AtomReading.{end_place, shown, IsPartFault};
 
-use crate::{Atom, AtomFault, AtomKind};
-use gv_base::{NoMemory, Text};
-use gv_version::is_category;
+use crate::dividing::{Division, divide};
+use crate::items_reading::read_items;
+use crate::naming::read_names;
+use crate::slots::read_slot;
+use crate::{Atom, AtomFault};
+use gv_version::split_pf_law;
 use std::alloc::Global;
 
-fn is_plain_byte(b: u8) -> bool
-    ensures { result ≡ is_plain_byte b }
+// The parts are judged in the order in which they stand, the slot part's repository before its slot.
+fn read_division(alloc: Global, division: &Division<'_>) -> Result<Atom, AtomFault>
+    requires { end_place (shown division.now) < 2 ^ 64 }
+    ensures none { IfOk result (λ atom. division_fault (shown division.now) ≡ None) }
+    ensures atom { IfOk result (λ atom. atom_in (shown division.now) ≡ Some atom) }
+    ensures bad { IfErr result (IsPartFault (division_fault (shown division.now))) }
 {
-    matches!(b, b'0'..=b'9' | b'a'..=b'z' | b'A'..=b'Z' | b'_')
-}
-
-fn has_plain_bytes(bytes: &[u8]) -> bool
-    ensures { result ≡ list_all is_plain_byte bytes.now }
-{
-    bytes.iter().all(|b| is_plain_byte(*b))
-}
-
-fn is_plain_name(bytes: &[u8]) -> bool
-    ensures { result ≡ is_plain_name bytes.now }
-{
-    !bytes.is_empty() && has_plain_bytes(bytes)
-}
-
-fn slash_of(bytes: &[u8]) -> usize
-    ensures place { result ≡ position_or_len is_slash bytes.now }
-    ensures within { result ≤ length bytes.now }
-{
-    for (at, b) in bytes.iter().enumerate() {
-        if *b == b'/' {
-            return at;
-        }
-    }
-    bytes.len()
-}
-
-// The name of the atom of this category, where a slash and a plain name follow.
-fn name_behind<'a>(category: &[u8], rest: &'a [u8]) -> Option<&'a [u8]>
-    ensures { MatchOption result (atom_behind category.now rest.now ≡ None)
-        (λ name. atom_behind category.now rest.now ≡ Some (record { category = category.now; name = name.now })) }
-{
-    match rest {
-        [_, name @ ..] if is_category(category) && is_plain_name(name) => Some(name),
-        _ => None,
-    }
+    let names = read_names(alloc, division)?;
+    let (slot, mark) = read_slot(alloc, division)?;
+    let items = read_items(alloc, division)?;
+    Ok(Atom {
+        block: division.block,
+        op: division.op,
+        category: names.category,
+        name: names.name,
+        version: names.version,
+        star: names.star,
+        slot,
+        mark,
+        items,
+    })
 }
 
 fn read(alloc: Global, bytes: &[u8]) -> Result<Atom, AtomFault>
     ensures read { IfOk result (λ atom. read_atom bytes.now ≡ Some atom) }
-    ensures bad { IfErr result (IsNoAtom bytes.now) }
+    ensures bad { IfErr result (IsFaultOf bytes.now) }
 {
-    let (category, rest) = bytes.split_at(slash_of(bytes));
-    match name_behind(category, rest) {
-        Some(name) => Ok(Atom {
-            category: Text::of(alloc, category)?,
-            name: Text::of(alloc, name)?,
-        }),
-        None => Err(AtomFault::Bad {
-            kind: AtomKind::Package,
-            at: 0,
-        }),
-    }
+    read_division(alloc, &divide(bytes))
 }
 
-/// The atom that the bytes are. An atom is a category, `/` and a name of letters, digits and `_`; all other bytes
-/// are Bad, with the kind Package at place 0.
-#[tactic(auto, using(crate::proofs::AtomLaw::read_is_written, crate::proofs::AtomLaw::written_is_read, crate::proofs::AtomLaw::never_refused))]
+/// The atom that the bytes are (PMS chapter 8). Where they are none, the first part that is bad is told, with its place.
+/// Places have 32 bits: where one doesn't fit, which takes bytes of 2^32 and more, no memory is found.
 pub fn read_atom(alloc: Global, bytes: &[u8]) -> Result<Atom, AtomFault>
     // What is read is the atom of these bytes.
     ensures atom { IfOk result (λ atom. IsAtomOf bytes.now atom) }
     ensures read { IfOk result (λ atom. read_atom bytes.now ≡ Some atom) }
     // Each atom is read from its text.
     ensures again { (a : Atom) → IsAtomOf bytes.now a → GivesAtom result a }
-    ensures bad { IfErr result (IsNoAtom bytes.now) }
+    ensures bad { IfErr result (IsFaultOf bytes.now) }
 {
+    split_pf_law();
     match read(alloc, bytes) {
         Ok(atom) => Ok(atom),
         Err(fault) => Err(fault),
     }
-}
-
-/// The text of the atom, from which it is read.
-pub fn print_atom(alloc: Global, atom: &Atom) -> Result<Text, NoMemory>
-    ensures { IfOk result (λ text. text ≡ atom_text atom.now) }
-{
-    let mut text = atom.category.copy(alloc)?;
-    text.append(b"/")?;
-    text.append(atom.name.bytes())?;
-    Ok(text)
 }
