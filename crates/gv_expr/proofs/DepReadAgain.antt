@@ -4,7 +4,7 @@ use Rattle.gv_atom.specs.AtomText.{atom_text}
 use Rattle.gv_atom.specs.AtomRead.{read_atom}
 use Rattle.gv_expr.specs.declared.token.Token.{Token}
 use Rattle.gv_expr.specs.declared.token.Token.TheVariants as tokens
-use Rattle.gv_expr.specs.Dep.{Dep, Deps, leaf, when, end, more, deps, listed, listed-deps, top}
+use Rattle.gv_expr.specs.Dep.{Dep, Deps, leaf, all, any, when, end, more, deps, listed, listed-deps, top}
 use Rattle.gv_expr.specs.DepGrammar.{dep_tokens}
 use Rattle.gv_expr.specs.DepRead.{dep_groups, with_leaf, with_group}
 
@@ -21,6 +21,8 @@ before_end (more t ts) = ap (more t) (before_end ts)
 abbrev pub AtomsRead : Deps → Type 0
 AtomsRead end = Unit {0}
 AtomsRead (more (leaf atom) rest) = (read_atom (atom_text atom) ≡ Some atom) × AtomsRead rest
+AtomsRead (more (all items) rest) = AtomsRead items × AtomsRead rest
+AtomsRead (more (any items) rest) = AtomsRead items × AtomsRead rest
 AtomsRead (more (when flag negated items) rest) = AtomsRead items × AtomsRead rest
 
 unfoldable pub IsReadBack : Deps → Type 0
@@ -39,6 +41,8 @@ unfolding IsReadBack
 read_back end good k rest outer e = e
 read_back (more (leaf atom) ts) good k rest outer e =
     ap (λ x. with_leaf (read_atom (atom_text atom)) x) (read_back ts good.1 k rest outer e) ∙ ap (λ x. with_leaf x (before ts rest ∷ outer)) good.0
+read_back (more (all items) ts) good k rest outer e = group_read all items ts (read_back items good.0) (read_back ts good.1) k rest outer e
+read_back (more (any items) ts) good k rest outer e = group_read any items ts (read_back items good.0) (read_back ts good.1) k rest outer e
 read_back (more (when flag negated items) ts) good k rest outer e = group_read (when flag negated) items ts (read_back items good.0) (read_back ts good.1) k rest outer e
 
 -- the trees of the tokens of trees

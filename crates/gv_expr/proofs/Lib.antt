@@ -1,5 +1,17 @@
+pub mod Bools
+pub mod DepFaults
 pub mod DepLaw
 pub mod DepReadAgain
+pub mod DepSteps
+pub mod Examples
 pub mod Faults
+pub mod Limits
+pub mod ReqFaults
+pub mod ReqLaw
+pub mod ReqReadAgain
+pub mod ReqSteps
+pub mod Signs
 pub mod SpacedLemmas
 pub mod Steps
+pub mod TokensAgain
+pub mod WordsAgain

@@ -3,19 +3,23 @@ use Rattle.std.specs.Prelude.{◌≡◌, ℕ, ◌+◌, ◌<◌, ◌≤◌, true,
 use Rattle.gv_version.specs.Names.{is_flag}
 use Rattle.gv_atom.specs.AtomText.{atom_text, is_atom}
 use Rattle.gv_expr.specs.declared.token.Token.{Token}
-use Rattle.gv_expr.specs.declared.token.Token.TheVariants.{Open, Close, If, Word}
-use Rattle.gv_expr.specs.Dep.{Dep, Deps, leaf, when, end, more, deps}
+use Rattle.gv_expr.specs.declared.token.Token.TheVariants.{Open, Close, Any, If, Word}
+use Rattle.gv_expr.specs.Dep.{Dep, Deps, leaf, all, any, when, end, more, deps}
 use Rattle.gv_expr.specs.Tokens.{tokens_of, tokens_text}
 
 abbrev pub dep_tokens : Deps → List Token
 dep_tokens end = []
 dep_tokens (more (leaf atom) rest) = Word (atom_text atom) ∷ dep_tokens rest
+dep_tokens (more (all items) rest) = Open ∷ (dep_tokens items ++ Close ∷ dep_tokens rest)
+dep_tokens (more (any items) rest) = Any ∷ Open ∷ (dep_tokens items ++ Close ∷ dep_tokens rest)
 dep_tokens (more (when flag negated items) rest) = If flag negated ∷ Open ∷ (dep_tokens items ++ Close ∷ dep_tokens rest)
 
 -- at most 64 groups are open, and the atoms and flags are such
 abbrev pub AreDeps : ℕ → Deps → Type 0
 AreDeps depth end = Unit {0}
 AreDeps depth (more (leaf atom) rest) = (is_atom atom ≡ true) × AreDeps depth rest
+AreDeps depth (more (all items) rest) = (depth < 64) × AreDeps (depth + 1) items × AreDeps depth rest
+AreDeps depth (more (any items) rest) = (depth < 64) × AreDeps (depth + 1) items × AreDeps depth rest
 AreDeps depth (more (when flag negated items) rest) =
     (is_flag flag ≡ true) × (depth < 64) × AreDeps (depth + 1) items × AreDeps depth rest
 

@@ -1,15 +1,12 @@
 -- The trees of tokens that have no fault, from the last token to the first: a list for each open group.
-use Rattle.std.specs.Prelude.{◌≡◌, ℕ, is_none, if◌then◌else◌, List, [], ◌∷◌, Option, None, Some, Result, Ok, Err}
+use Rattle.std.specs.Prelude.{ℕ, is_none, if◌then◌else◌, List, [], ◌∷◌, Option, None, Some}
 use Rattle.gv_atom.specs.declared.atom.Atom.{Atom}
 use Rattle.gv_atom.specs.AtomRead.{read_atom}
 use Rattle.gv_expr.specs.declared.token.Token.{Token}
 use Rattle.gv_expr.specs.declared.token.Token.TheVariants as tokens
-use Rattle.gv_expr.specs.declared.fault.ExprFault.{ExprFault}
-use Rattle.gv_expr.specs.declared.fault.ExprFault.TheVariants.{Bad, NoMemory}
-use Rattle.gv_expr.specs.declared.fault.ExprKind.TheVariants.{Stray}
-use Rattle.gv_expr.specs.Dep.{Dep, Deps, leaf, when, end, more, listed, top}
+use Rattle.gv_expr.specs.Dep.{Dep, Deps, leaf, all, any, when, end, more, listed, top}
 use Rattle.gv_expr.specs.Tokens.{tokens_of}
-use Rattle.gv_expr.specs.TokenFaults.{first_fault}
+use Rattle.gv_expr.specs.TokenFaults.{dependency, first_fault}
 
 -- a leaf before the rest of its group
 abbrev pub with_leaf : Option Atom → List Deps → List Deps
@@ -24,6 +21,8 @@ with_group make groups = groups
 abbrev pub dep_groups : List Token → List Deps
 dep_groups [] = end ∷ []
 dep_groups (tokens.Close ∷ ts) = end ∷ dep_groups ts
+dep_groups (tokens.Open ∷ ts) = with_group all (dep_groups ts)
+dep_groups (tokens.Any ∷ tokens.Open ∷ ts) = with_group any (dep_groups ts)
 dep_groups (tokens.If flag negated ∷ tokens.Open ∷ ts) = with_group (when flag negated) (dep_groups ts)
 dep_groups (tokens.Word text ∷ ts) = with_leaf (read_atom text) (dep_groups ts)
 dep_groups (t ∷ ts) = dep_groups ts
@@ -31,15 +30,4 @@ dep_groups (t ∷ ts) = dep_groups ts
 -- None exactly where the bytes are no dependency within the limits
 abbrev pub read_dep : List ℕ → Option (List Dep)
 read_dep bytes =
-    if is_none (first_fault (tokens_of bytes)) then Some (listed (top (dep_groups (tokens_of bytes)))) else None
-
--- the bytes are no dependency within the limits; which token is at fault isn't told yet
-abbrev pub IsNoDep : List ℕ → ExprFault → Type 0
-IsNoDep bytes (Bad token kind) = (read_dep bytes ≡ None) × (token ≡ 0) × (kind ≡ Stray)
-IsNoDep bytes NoMemory = Unit {0}
-
--- this dependency was read, or memory ran out
-abbrev pub GivesDep : Result (List Dep) ExprFault → List Dep → Type 0
-GivesDep (Ok read) ts = read ≡ ts
-GivesDep (Err (Bad token kind)) ts = ⊥
-GivesDep (Err NoMemory) ts = Unit {0}
+    if is_none (first_fault dependency (tokens_of bytes)) then Some (listed (top (dep_groups (tokens_of bytes)))) else None

@@ -3,8 +3,15 @@ pub mod DepFalls
 pub mod DepGrammar
 pub mod DepRead
 pub mod DepView
+pub mod ExprFaults
+pub mod Leaves
 pub mod Mentioned
 pub mod ReaderState
+pub mod Req
+pub mod ReqFalls
+pub mod ReqGrammar
+pub mod ReqRead
+pub mod ReqView
 pub mod Spaced
 pub mod TokenFaults
 pub mod Tokens

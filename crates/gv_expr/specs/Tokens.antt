@@ -7,7 +7,7 @@ use Rattle.gv_base.specs.Words as words
 use Rattle.gv_base.specs.Words.{is_empty, joined}
 use Rattle.gv_version.specs.Bytes.{begins_with}
 use Rattle.gv_expr.specs.declared.token.Token.{Token}
-use Rattle.gv_expr.specs.declared.token.Token.TheVariants.{Open, Close, If, Word}
+use Rattle.gv_expr.specs.declared.token.Token.TheVariants.{Open, Close, Any, One, Most, If, Word}
 
 -- whether the last byte is the mark of a conditional
 abbrev pub is_conditional : List ℕ → Bool
@@ -23,6 +23,9 @@ abbrev pub token_of : List ℕ → Token
 token_of word =
     if bytes_eq word (codes "(") then Open else
     if bytes_eq word (codes ")") then Close else
+    if bytes_eq word (codes "||") then Any else
+    if bytes_eq word (codes "^^") then One else
+    if bytes_eq word (codes "??") then Most else
     if is_conditional word then If (without_sign (without_last word)) (is_negated (without_last word)) else Word word
 
 abbrev pub signed : List ℕ → Bool → List ℕ
@@ -32,6 +35,9 @@ signed flag true = byte "!" ∷ flag
 abbrev pub token_text : Token → List ℕ
 token_text Open = codes "("
 token_text Close = codes ")"
+token_text Any = codes "||"
+token_text One = codes "^^"
+token_text Most = codes "??"
 token_text (If flag negated) = signed flag negated ++ codes "?"
 token_text (Word text) = text
 

@@ -1,7 +1,16 @@
-ghost use Rattle.std.specs.Prelude.{◌≡◌, ◌∷◌, [], ◌++◌, IfOk, OnOk, OnErr};
+//! Dependencies (PMS chapter 8) as trees, and what the reader of tokens needs to know of them.
+ghost use Rattle.std.specs.Prelude.{◌≡◌, ◌∷◌, [], ◌++◌, Some, true, IfOk, OnOk, OnErr};
+ghost use Rattle.gv_expr.specs.Dep.{deps, end, more};
+ghost use Rattle.gv_expr.specs.DepGrammar.{dep_tokens};
 ghost use Rattle.gv_expr.specs.DepView.{dep_of, view_of};
+ghost use Rattle.gv_expr.specs.Leaves.{are_atoms};
+ghost use Rattle.gv_expr.specs.ReaderState.{head_tokens, is_allowed};
+ghost use Rattle.gv_expr.specs.declared.fault.ExprKind.TheVariants.{NotHere};
+ghost use Rattle.gv_expr.specs.declared.token.Token.TheVariants.{Open, Close};
 
-use gv_atom::Atom;
+use crate::ExprKind;
+use crate::grammar::{Grammar, Head, StepFault};
+use gv_atom::{Atom, AtomFault, read_atom};
 use gv_base::{NoMemory, Text};
 use std::alloc::Global;
 use std::marker::Model;
@@ -13,6 +22,14 @@ pub enum DepTree {
     /// An atom.
     Leaf {
         atom: Atom,
+    },
+    /// `( )`.
+    All {
+        items: DepExpr,
+    },
+    /// `|| ( )`.
+    Any {
+        items: DepExpr,
     },
     /// `flag? ( )`, and `!flag? ( )` where it is negated.
     If {
@@ -86,7 +103,62 @@ impl DepExpr {
     }
 }
 
+/// Leaves are atoms, and neither `^^` nor `??` is allowed.
+impl Grammar for DepExpr {
+    ghost use Rattle.gv_expr.specs.TokenFaults.{dependency};
+
+    ghost language = { dependency };
+
+    ghost written = { λ e. dep_tokens (deps e) };
+
+    ghost are_good = { λ e. are_atoms (deps e) };
+
+    fn nothing(alloc: Global) -> DepExpr {
+        DepExpr::new(alloc)
+    }
+
+    fn count_fault() -> Option<ExprKind> {
+        Some(ExprKind::NotHere)
+    }
+
+    #[tactic(auto, using(crate::proofs::DepSteps::leaf_tokens, crate::proofs::DepSteps::leaf_leaves))]
+    fn add_leaf(&mut self, alloc: Global, text: &Text) -> Result<(), StepFault> {
+        match read_atom(alloc, text.bytes()) {
+            Ok(atom) => {
+                self.add(DepTree::Leaf { atom })?;
+                Ok(())
+            }
+            Err(AtomFault::Bad { .. }) => Err(StepFault::Fault(ExprKind::BadAtom)),
+            Err(AtomFault::NoMemory) => Err(StepFault::NoMemory),
+        }
+    }
+
+    #[tactic(auto, using(crate::proofs::DepSteps::more_tokens, crate::proofs::DepSteps::more_leaves))]
+    fn add_group(&mut self, head: Head, items: DepExpr) -> Result<(), NoMemory> {
+        self.add(DepTree::group(head, items))
+    }
+}
+
 impl DepTree {
+    // The group of these trees, behind what stands before its `(`.
+    #[tactic(auto, using(crate::proofs::DepSteps::group_leaves))]
+    fn group(head: Head, items: DepExpr) -> DepTree
+        requires allowed { is_allowed (Some NotHere) head ≡ true }
+        ensures tokens { dep_tokens (more (dep_of result) end) ≡ head_tokens head ++ Open ∷ (dep_tokens (deps items) ++ Close ∷ []) }
+        ensures leaves { are_atoms (more (dep_of result) end) ≡ are_atoms (deps items) }
+    {
+        match head {
+            Head::Nothing => DepTree::All { items },
+            Head::Any => DepTree::Any { items },
+            Head::If { flag, negated } => DepTree::If {
+                flag,
+                negated,
+                items,
+            },
+            Head::One | Head::Most => unreachable!(),
+        }
+    }
+
     /// The same tree once more. O(bytes).
     #[cycle(copy)]
     pub fn copy(&self, alloc: Global) -> Result<DepTree, NoMemory>
@@ -95,6 +167,12 @@ impl DepTree {
         match self {
             DepTree::Leaf { atom } => Ok(DepTree::Leaf {
                 atom: atom.copy(alloc)?,
+            }),
+            DepTree::All { items } => Ok(DepTree::All {
+                items: items.copy(alloc)?,
+            }),
+            DepTree::Any { items } => Ok(DepTree::Any {
+                items: items.copy(alloc)?,
             }),
             DepTree::If {
                 flag,

@@ -1,3 +1,4 @@
+//! What is wrong with bytes that are no expression.
 use gv_base::NoMemory;
 
 /// What is wrong with a token of an expression.

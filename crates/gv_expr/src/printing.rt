@@ -1,23 +1,29 @@
-//! The text of a dependency: its tokens, joined by one space. O(bytes).
-ghost use Rattle.std.specs.Prelude.{◌≡◌, ◌++◌, ◌<◌, [], ◌∷◌, Some, IfOk, IfSome, OnOk, length, drop, codes, slice_get};
+//! The text of an expression: its tokens, joined by one space. O(bytes).
+//!
+//! A space is written before each token, and the first is cut off at the end.
+ghost use Rattle.std.specs.Prelude.{◌≡◌, ◌<◌, ◌++◌, [], ◌∷◌, ℕ, List, IfOk, IfSome, OnOk, length, drop, slice_get};
 ghost use Rattle.gv_expr.specs.Dep.{deps};
+ghost use Rattle.gv_expr.specs.DepGrammar.{dep_text, dep_tokens, item_text, IsDepOf};
 ghost use Rattle.gv_expr.specs.DepView.{dep_of};
-ghost use Rattle.gv_expr.specs.DepGrammar.{dep_tokens, dep_text, item_text};
-ghost use Rattle.gv_expr.specs.Tokens.{signed};
+ghost use Rattle.gv_expr.specs.Req.{reqs};
+ghost use Rattle.gv_expr.specs.ReqGrammar.{req_text, req_tokens, IsReqOf};
+ghost use Rattle.gv_expr.specs.ReqView.{req_of};
 ghost use Rattle.gv_expr.specs.Spaced.{spaced};
+ghost use Rattle.gv_expr.specs.Tokens.{signed};
+ghost use Rattle.gv_expr.specs.declared.token.Token.TheVariants.{Open, Close, If};
 
-use crate::{DepExpr, DepTree};
+use crate::{DepExpr, DepTree, UseExpr, UseTree};
+use gv_atom::print_atom;
 use gv_base::{NoMemory, Text};
 use std::alloc::Global;
 
 /// The tokens of the dependency, joined by one space.
-#[tactic(auto, using(crate::proofs::SpacedLemmas::unspaced))]
 pub fn print_dep(alloc: Global, items: &DepExpr) -> Result<Text, NoMemory>
-    ensures { IfOk result (λ text. text ≡ dep_text (deps items.now)) }
+    ensures text { IfOk result (λ text. text ≡ dep_text (deps items.now)) }
+    // The text of a dependency that was read is that dependency again.
+    ensures again { IfOk result (λ text. (bytes : List ℕ) → IsDepOf bytes items.now → IsDepOf text items.now) }
 {
-    let mut text = Text::of(alloc, b"")?;
-    print_items(items, &mut text)?;
-    without_space(alloc, &text)
+    text_of_dep(alloc, items)
 }
 
 /// The tokens of the top item with this number, from 0, joined by one space.
@@ -26,9 +32,36 @@ pub fn print_item(alloc: Global, items: &DepExpr, n: u32) -> Result<Text, NoMemo
     ensures { IfOk result (λ text. IfSome (slice_get items.now n) (λ item. text ≡ item_text item)) }
 {
     let mut text = Text::of(alloc, b"")?;
-    print_tree(&items.items[n as usize], &mut text)?;
+    append_dep(alloc, &items.items[n as usize], &mut text)?;
     let cut = without_space(alloc, &text)?;
     Ok(cut)
+}
+
+/// The tokens of the REQUIRED_USE, joined by one space.
+pub fn print_required(alloc: Global, items: &UseExpr) -> Result<Text, NoMemory>
+    ensures text { IfOk result (λ text. text ≡ req_text (reqs items.now)) }
+    // The text of a REQUIRED_USE that was read is that REQUIRED_USE again.
+    ensures again { IfOk result (λ text. (bytes : List ℕ) → IsReqOf bytes items.now → IsReqOf text items.now) }
+{
+    text_of_required(alloc, items)
+}
+
+#[tactic(auto, using(crate::proofs::SpacedLemmas::unspaced))]
+fn text_of_dep(alloc: Global, items: &DepExpr) -> Result<Text, NoMemory>
+    ensures { IfOk result (λ text. text ≡ dep_text (deps items.now)) }
+{
+    let mut text = Text::of(alloc, b"")?;
+    append_deps(alloc, items, &mut text)?;
+    without_space(alloc, &text)
+}
+
+#[tactic(auto, using(crate::proofs::SpacedLemmas::unspaced))]
+fn text_of_required(alloc: Global, items: &UseExpr) -> Result<Text, NoMemory>
+    ensures { IfOk result (λ text. text ≡ req_text (reqs items.now)) }
+{
+    let mut text = Text::of(alloc, b"")?;
+    append_uses(items, &mut text)?;
+    without_space(alloc, &text)
 }
 
 // The text behind the space that stands before the first token.
@@ -42,59 +75,128 @@ fn without_space(alloc: Global, text: &Text) -> Result<Text, NoMemory>
 }
 
 fn append_flag(flag: &Text, negated: bool, text: &mut Text) -> Result<(), NoMemory>
-    ensures { OnOk result (text.new ≡ text.old ++ signed flag.now negated) }
+    ensures { OnOk result (text.new ≡ text.old ++ 32 ∷ signed flag.now negated) }
 {
     if negated {
-        text.append(b"!")?;
-        text.append(flag.bytes())?;
-        Ok(())
+        text.append(b" !")?;
     } else {
-        text.append(flag.bytes())?;
-        Ok(())
+        text.append(b" ")?;
     }
+    text.append(flag.bytes())?;
+    Ok(())
 }
 
-fn append_head(flag: &Text, negated: bool, text: &mut Text) -> Result<(), NoMemory>
-    ensures { OnOk result (text.new ≡ text.old ++ 32 ∷ (signed flag.now negated ++ codes "? (")) }
+fn append_condition(flag: &Text, negated: bool, text: &mut Text) -> Result<(), NoMemory>
+    ensures { OnOk result (text.new ≡ text.old ++ spaced (If flag.now negated ∷ Open ∷ [])) }
 {
-    text.append(b" ")?;
     append_flag(flag, negated, text)?;
     text.append(b"? (")?;
     Ok(())
 }
 
-#[cycle(print)]
-fn print_items(items: &DepExpr, text: &mut Text) -> Result<(), NoMemory>
+#[cycle(deps)]
+fn append_deps(alloc: Global, items: &DepExpr, text: &mut Text) -> Result<(), NoMemory>
     ensures { OnOk result (text.new ≡ text.old ++ spaced (dep_tokens (deps items.now))) }
 {
     for tree in &items.items {
-        print_tree(tree, text)?;
+        append_dep(alloc, tree, text)?;
     }
     Ok(())
 }
 
-#[cycle(print)]
-#[tactic(auto, using(crate::proofs::SpacedLemmas::group_printed))]
-fn print_tree(tree: &DepTree, text: &mut Text) -> Result<(), NoMemory>
+// The trees of a group, and its end.
+#[cycle(deps)]
+#[tactic(auto, using(crate::proofs::SpacedLemmas::closed))]
+fn append_dep_group(alloc: Global, items: &DepExpr, text: &mut Text) -> Result<(), NoMemory>
+    ensures { OnOk result (text.new ≡ text.old ++ spaced (dep_tokens (deps items.now) ++ Close ∷ [])) }
+{
+    append_deps(alloc, items, text)?;
+    text.append(b" )")?;
+    Ok(())
+}
+
+#[cycle(deps)]
+#[tactic(auto, using(crate::proofs::SpacedLemmas::plain_printed, crate::proofs::SpacedLemmas::any_printed, crate::proofs::SpacedLemmas::if_printed))]
+fn append_dep(alloc: Global, tree: &DepTree, text: &mut Text) -> Result<(), NoMemory>
     ensures { OnOk result (text.new ≡ text.old ++ spaced (dep_tokens (deps (dep_of tree.now ∷ [])))) }
 {
     match tree {
         DepTree::Leaf { atom } => {
+            let atom = print_atom(alloc, atom)?;
             text.append(b" ")?;
-            text.append(atom.category.bytes())?;
-            text.append(b"/")?;
-            text.append(atom.name.bytes())?;
+            text.append(atom.bytes())?;
             Ok(())
+        }
+        DepTree::All { items } => {
+            text.append(b" (")?;
+            append_dep_group(alloc, items, text)
+        }
+        DepTree::Any { items } => {
+            text.append(b" || (")?;
+            append_dep_group(alloc, items, text)
         }
         DepTree::If {
             flag,
             negated,
             items,
         } => {
-            append_head(flag, *negated, text)?;
-            print_items(items, text)?;
-            text.append(b" )")?;
-            Ok(())
+            append_condition(flag, *negated, text)?;
+            append_dep_group(alloc, items, text)
+        }
+    }
+}
+
+#[cycle(uses)]
+fn append_uses(items: &UseExpr, text: &mut Text) -> Result<(), NoMemory>
+    ensures { OnOk result (text.new ≡ text.old ++ spaced (req_tokens (reqs items.now))) }
+{
+    for tree in &items.items {
+        append_use(tree, text)?;
+    }
+    Ok(())
+}
+
+// The trees of a group, and its end.
+#[cycle(uses)]
+#[tactic(auto, using(crate::proofs::SpacedLemmas::closed))]
+fn append_use_group(items: &UseExpr, text: &mut Text) -> Result<(), NoMemory>
+    ensures { OnOk result (text.new ≡ text.old ++ spaced (req_tokens (reqs items.now) ++ Close ∷ [])) }
+{
+    append_uses(items, text)?;
+    text.append(b" )")?;
+    Ok(())
+}
+
+#[cycle(uses)]
+#[tactic(auto, using(crate::proofs::SpacedLemmas::plain_printed, crate::proofs::SpacedLemmas::any_printed, crate::proofs::SpacedLemmas::one_printed, crate::proofs::SpacedLemmas::most_printed, crate::proofs::SpacedLemmas::if_printed))]
+fn append_use(tree: &UseTree, text: &mut Text) -> Result<(), NoMemory>
+    ensures { OnOk result (text.new ≡ text.old ++ spaced (req_tokens (reqs (req_of tree.now ∷ [])))) }
+{
+    match tree {
+        UseTree::Leaf { flag, negated } => append_flag(flag, *negated, text),
+        UseTree::All { items } => {
+            text.append(b" (")?;
+            append_use_group(items, text)
+        }
+        UseTree::Any { items } => {
+            text.append(b" || (")?;
+            append_use_group(items, text)
+        }
+        UseTree::One { items } => {
+            text.append(b" ^^ (")?;
+            append_use_group(items, text)
+        }
+        UseTree::Most { items } => {
+            text.append(b" ?? (")?;
+            append_use_group(items, text)
+        }
+        UseTree::If {
+            flag,
+            negated,
+            items,
+        } => {
+            append_condition(flag, *negated, text)?;
+            append_use_group(items, text)
         }
     }
 }

@@ -1,19 +1,25 @@
-//! Reading a dependency, token by token, with a stack of open groups. O(bytes).
-ghost use Rattle.std.specs.Prelude.{◌≡◌, ◌<◌, [], ◌∷◌, List, length, None, Some, IsSome, IfOk, IfErr, MatchOption};
-ghost use Rattle.gv_expr.specs.Dep.{Dep, deps};
-ghost use Rattle.gv_expr.specs.DepGrammar.{dep_tokens, IsDepOf};
-ghost use Rattle.gv_expr.specs.DepRead.{read_dep, GivesDep, IsNoDep};
-ghost use Rattle.gv_expr.specs.ReaderState.{FaultIs};
-ghost use Rattle.gv_expr.specs.TokenFaults.{first_fault};
-ghost use Rattle.gv_expr.specs.Tokens.{token_of, tokens_in, tokens_of};
+//! Reading an expression, token by token, with a stack of open groups. O(bytes).
+ghost use Rattle.std.specs.Prelude.{◌≡◌, ◌<◌, [], ◌∷◌, true, List, length, None, Some, IsSome, IfOk, IfErr, MatchOption};
 ghost use Rattle.gv_base.specs.Pieces.{left};
+ghost use Rattle.gv_expr.specs.Dep.{Dep};
+ghost use Rattle.gv_expr.specs.DepGrammar.{IsDepOf};
+ghost use Rattle.gv_expr.specs.DepRead.{read_dep};
+ghost use Rattle.gv_expr.specs.ExprFaults.{FaultIs, GivesDep, GivesReq};
+ghost use Rattle.gv_expr.specs.Req.{Req};
+ghost use Rattle.gv_expr.specs.ReqGrammar.{IsReqOf};
+ghost use Rattle.gv_expr.specs.ReqRead.{read_required};
+ghost use Rattle.gv_expr.specs.TokenFaults.{dependency, first_fault, required_use};
+ghost use Rattle.gv_expr.specs.Tokens.{token_of, tokens_in, tokens_of};
 
-use crate::reader::{Reader, StepFault};
+use crate::grammar::{Grammar, StepFault};
+use crate::reader::Reader;
 use crate::token::token_of;
-use crate::{DepExpr, ExprFault, ExprKind};
+use crate::{DepExpr, ExprFault, ExprKind, UseExpr};
+use gv_atom::atom_law;
 use gv_base::{Cut, next_piece};
 use std::alloc::Global;
 
+/// The most tokens of an expression.
 const MOST_TOKENS: u32 = 100_000;
 
 // Takes the first piece that isn't empty off, where one is left.
@@ -30,13 +36,14 @@ fn next_word<'a>(rest: &mut Option<&'a [u8]>) -> Option<&'a [u8]>
     None
 }
 
-// The expression with these tokens, or their first fault.
-fn read_tokens(alloc: Global, bytes: &[u8]) -> Result<DepExpr, ExprFault>
-    ensures tokens { IfOk result (λ e. dep_tokens (deps e) ≡ tokens_of bytes.now) }
-    ensures none { IfOk result (λ e. first_fault (tokens_of bytes.now) ≡ None) }
-    ensures fault { IfErr result (FaultIs (first_fault (tokens_of bytes.now))) }
+// The trees with these tokens, or the first fault of the tokens.
+fn read_tokens<E: Grammar>(alloc: Global, bytes: &[u8]) -> Result<E, ExprFault>
+    ensures tokens { IfOk result (λ e. E.written e ≡ tokens_of bytes.now) }
+    ensures good { IfOk result (λ e. E.are_good e ≡ true) }
+    ensures none { IfOk result (λ e. first_fault E.language (tokens_of bytes.now) ≡ None) }
+    ensures bad { IfErr result (FaultIs (first_fault E.language (tokens_of bytes.now))) }
 {
-    let mut reader = Reader::new(alloc);
+    let mut reader = Reader::<E>::new(alloc);
     let mut number: u32 = 1;
     let mut rest = Some(bytes);
     while let Some(word) = next_word(&mut rest) {
@@ -67,23 +74,29 @@ fn read_tokens(alloc: Global, bytes: &[u8]) -> Result<DepExpr, ExprFault>
     }
 }
 
-/// The dependency that the bytes are: atoms, `flag? ( )` and `!flag? ( )`, with at most 64 open groups and 100,000
-/// tokens. All other bytes are Bad, with token 0 and the kind Stray: which token is at fault isn't told yet.
-#[tactic(auto, using(crate::proofs::DepLaw::no_dep))]
+/// The dependency that the bytes are (PMS chapter 8): atoms, `( )`, `|| ( )`, `flag? ( )` and `!flag? ( )`, with at most
+/// 64 open groups and 100,000 tokens. Where they are none, the first token that is at fault is told.
 pub fn read_dep(alloc: Global, bytes: &[u8]) -> Result<DepExpr, ExprFault>
     // What is read is the dependency of these bytes.
     ensures dep { IfOk result (λ e. IsDepOf bytes.now e) }
     ensures read { IfOk result (λ e. read_dep bytes.now ≡ Some e) }
     // Each dependency within the limits is read from its bytes.
     ensures again { (ts : List Dep) → IsDepOf bytes.now ts → GivesDep result ts }
-    ensures bad { IfErr result (IsNoDep bytes.now) }
+    ensures bad { IfErr result (FaultIs (first_fault dependency (tokens_of bytes.now))) }
 {
-    match read_tokens(alloc, bytes) {
-        Ok(items) => Ok(items),
-        Err(ExprFault::Bad { .. }) => Err(ExprFault::Bad {
-            token: 0,
-            kind: ExprKind::Stray,
-        }),
-        Err(ExprFault::NoMemory) => Err(ExprFault::NoMemory),
-    }
+    atom_law();
+    read_tokens::<DepExpr>(alloc, bytes)
+}
+
+/// The REQUIRED_USE that the bytes are (PMS chapter 7): flags, `!flag`, `( )`, `|| ( )`, `^^ ( )`, `?? ( )`, `flag? ( )`
+/// and `!flag? ( )`, with the same limits. Where they are none, the first token that is at fault is told.
+pub fn read_required(alloc: Global, bytes: &[u8]) -> Result<UseExpr, ExprFault>
+    // What is read is the REQUIRED_USE of these bytes.
+    ensures required { IfOk result (λ e. IsReqOf bytes.now e) }
+    ensures read { IfOk result (λ e. read_required bytes.now ≡ Some e) }
+    // Each REQUIRED_USE within the limits is read from its bytes.
+    ensures again { (ts : List Req) → IsReqOf bytes.now ts → GivesReq result ts }
+    ensures bad { IfErr result (FaultIs (first_fault required_use (tokens_of bytes.now))) }
+{
+    read_tokens::<UseExpr>(alloc, bytes)
 }

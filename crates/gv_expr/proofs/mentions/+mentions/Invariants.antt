@@ -1,8 +1,0 @@
-use Rattle.std.proofs.Common.{◌≡◌, ◌++◌, drop}
-use Rattle.gv_expr.specs.Dep.{deps}
-use Rattle.gv_expr.specs.DepView.{view_of}
-use Rattle.gv_expr.specs.Mentioned.{dep_mentions}
-use Rattle.gv_expr.proofs.mentions.+mentions.Given as goal
-
-abbrev pub invariant-add_mentions-loop-tree : goal.invariant-add_mentions-loop-tree
-invariant-add_mentions-loop-tree l = l.flags ++ dep_mentions (deps (view_of (drop l.tree-index l.tree-items))) ≡ l.initial.flags ++ dep_mentions (deps l.items)

@@ -1,0 +1,203 @@
+//! REQUIRED_USE (PMS chapter 7) as trees, and what the reader of tokens needs to know of it.
+ghost use Rattle.std.specs.Prelude.{◌≡◌, ◌∷◌, [], ◌++◌, IfOk, OnOk, OnErr};
+ghost use Rattle.gv_expr.specs.Leaves.{are_flags};
+ghost use Rattle.gv_expr.specs.ReaderState.{head_tokens};
+ghost use Rattle.gv_expr.specs.Req.{reqs, end, more};
+ghost use Rattle.gv_expr.specs.ReqGrammar.{req_tokens};
+ghost use Rattle.gv_expr.specs.ReqView.{req_of, view_of};
+ghost use Rattle.gv_expr.specs.declared.token.Token.TheVariants.{Open, Close};
+
+use crate::ExprKind;
+use crate::grammar::{Grammar, Head, StepFault};
+use crate::token::split_sign;
+use gv_base::{NoMemory, Text};
+use gv_version::is_flag;
+use std::alloc::Global;
+use std::marker::Model;
+
+/// A tree of a REQUIRED_USE.
+#[cycle(required)]
+#[derive(Drop)]
+pub enum UseTree {
+    /// `flag`, and `!flag` where it is negated.
+    Leaf {
+        flag: Text,
+        negated: bool,
+    },
+    /// `( )`.
+    All {
+        items: UseExpr,
+    },
+    /// `|| ( )`.
+    Any {
+        items: UseExpr,
+    },
+    /// `^^ ( )`.
+    One {
+        items: UseExpr,
+    },
+    /// `?? ( )`.
+    Most {
+        items: UseExpr,
+    },
+    /// `flag? ( )`, and `!flag? ( )` where it is negated.
+    If {
+        flag: Text,
+        negated: bool,
+        items: UseExpr,
+    },
+}
+
+/// A REQUIRED_USE: its top trees, in the order in which they stand.
+#[cycle(required)]
+#[derive(Drop)]
+pub struct UseExpr {
+    pub items: Vec<UseTree>,
+}
+
+impl Model for UseExpr {
+    ghost use Rattle.std.specs.Prelude.{List};
+    ghost use Rattle.gv_expr.specs.Req.{Req, reqs_code, size_of};
+
+    ghost Value = { List Req };
+
+    ghost coded = { reqs_code };
+
+    ghost use Rattle.gv_expr.specs.ReqView.{view_of};
+
+    ghost view = { λ e. view_of e.items.items };
+
+    ghost size = { size_of };
+
+    ghost use Rattle.gv_expr.specs.ReqFalls.{child_falls};
+
+    ghost size_decreases = { λ a h. child_falls a };
+}
+
+impl UseExpr {
+    /// No trees.
+    pub fn new(alloc: Global) -> UseExpr
+        ensures { result ≡ [] }
+    {
+        UseExpr {
+            items: Vec::new(alloc),
+        }
+    }
+
+    /// Adds a tree at the end. After an error the expression is unchanged.
+    pub fn add(&mut self, item: UseTree) -> Result<(), NoMemory>
+        ensures ok { OnOk result (self.new ≡ self.old ++ req_of item ∷ []) }
+        ensures err { OnErr result (self.new ≡ self.old) }
+    {
+        self.items.push(item)?;
+        Ok(())
+    }
+
+    pub fn items(&self) -> &[UseTree]
+        ensures { view_of result.now ≡ self.now }
+    {
+        &self.items
+    }
+
+    /// The same expression once more. O(bytes).
+    #[cycle(copy)]
+    pub fn copy(&self, alloc: Global) -> Result<UseExpr, NoMemory>
+        ensures { IfOk result (λ e. e ≡ self.now) }
+    {
+        let mut copied = UseExpr::new(alloc);
+        for tree in &self.items {
+            copied.add(tree.copy(alloc)?)?;
+        }
+        Ok(copied)
+    }
+}
+
+/// Leaves are flags with an optional `!`, and all groups are allowed.
+impl Grammar for UseExpr {
+    ghost use Rattle.gv_expr.specs.TokenFaults.{required_use};
+
+    ghost language = { required_use };
+
+    ghost written = { λ e. req_tokens (reqs e) };
+
+    ghost are_good = { λ e. are_flags (reqs e) };
+
+    fn nothing(alloc: Global) -> UseExpr {
+        UseExpr::new(alloc)
+    }
+
+    fn count_fault() -> Option<ExprKind> {
+        None
+    }
+
+    #[tactic(auto, using(crate::proofs::ReqSteps::leaf_tokens, crate::proofs::ReqSteps::leaf_leaves, crate::proofs::Signs::signed_again))]
+    fn add_leaf(&mut self, alloc: Global, text: &Text) -> Result<(), StepFault> {
+        let (flag, negated) = split_sign(text.bytes());
+        if !is_flag(flag) {
+            return Err(StepFault::Fault(ExprKind::BadFlag));
+        }
+        let flag = Text::of(alloc, flag)?;
+        self.add(UseTree::Leaf { flag, negated })?;
+        Ok(())
+    }
+
+    #[tactic(auto, using(crate::proofs::ReqSteps::more_tokens, crate::proofs::ReqSteps::more_leaves))]
+    fn add_group(&mut self, head: Head, items: UseExpr) -> Result<(), NoMemory> {
+        self.add(UseTree::group(head, items))
+    }
+}
+
+impl UseTree {
+    // The group of these trees, behind what stands before its `(`.
+    #[tactic(auto, using(crate::proofs::ReqSteps::group_leaves))]
+    fn group(head: Head, items: UseExpr) -> UseTree
+        ensures tokens { req_tokens (more (req_of result) end) ≡ head_tokens head ++ Open ∷ (req_tokens (reqs items) ++ Close ∷ []) }
+        ensures leaves { are_flags (more (req_of result) end) ≡ are_flags (reqs items) }
+    {
+        match head {
+            Head::Nothing => UseTree::All { items },
+            Head::Any => UseTree::Any { items },
+            Head::One => UseTree::One { items },
+            Head::Most => UseTree::Most { items },
+            Head::If { flag, negated } => UseTree::If {
+                flag,
+                negated,
+                items,
+            },
+        }
+    }
+
+    /// The same tree once more. O(bytes).
+    #[cycle(copy)]
+    pub fn copy(&self, alloc: Global) -> Result<UseTree, NoMemory>
+        ensures { IfOk result (λ t. req_of t ≡ req_of self.now) }
+    {
+        match self {
+            UseTree::Leaf { flag, negated } => Ok(UseTree::Leaf {
+                flag: flag.copy(alloc)?,
+                negated: *negated,
+            }),
+            UseTree::All { items } => Ok(UseTree::All {
+                items: items.copy(alloc)?,
+            }),
+            UseTree::Any { items } => Ok(UseTree::Any {
+                items: items.copy(alloc)?,
+            }),
+            UseTree::One { items } => Ok(UseTree::One {
+                items: items.copy(alloc)?,
+            }),
+            UseTree::Most { items } => Ok(UseTree::Most {
+                items: items.copy(alloc)?,
+            }),
+            UseTree::If {
+                flag,
+                negated,
+                items,
+            } => Ok(UseTree::If {
+                flag: flag.copy(alloc)?,
+                negated: *negated,
+                items: items.copy(alloc)?,
+            }),
+        }
+    }
+}
