@@ -1,0 +1,4 @@
+mod Examples
+mod IndexLemmas
+mod MeetsLaw
+mod PlacesLemmas

@@ -1,0 +1,67 @@
+-- The places of a list with one more item.
+use Rattle.std.proofs.Common.{◌≡◌, ℕ, ◌+◌, Bool, true, false, List, [], ◌∷◌, ◌++◌, length, arith, map, filter, Some, refl, append_assoc, length-append, sym, ap, subst, ◌∙◌}
+use Rattle.std.specs.Prelude.{if◌then◌else◌, slice_get}
+use Rattle.std.proofs.lemmas.Slice.Eq.{bytes_eq-Decides}
+use Rattle.std.specs.Cmp.Lexicographic.{same_text}
+use Rattle.std.specs.Str.{bytes_eq}
+use Rattle.gv_facts.specs.Places.{places_from, places_of}
+
+pub same_flag : (f : List ℕ) → bytes_eq f f ≡ true
+same_flag f = (bytes_eq-Decides f f).1 refl
+
+pub turned : (a b : List ℕ) → bytes_eq a b ≡ bytes_eq b a
+turned a b = by (bytes_eq a b) (bytes_eq b a) refl refl
+  where
+    by : (x y : Bool) → bytes_eq a b ≡ x → bytes_eq b a ≡ y → x ≡ y
+    by true y e f = sym (subst (λ z. bytes_eq z a ≡ true) (same_text a b (sym e)) (same_flag a)) ∙ f
+    by false true e f = sym e ∙ subst (λ z. bytes_eq z b ≡ true) (same_text b a (sym f)) (same_flag b)
+    by false false e f = refl
+
+module _ {A : Type 0} (test : A → Bool) (x : A) where
+  from_more : (xs : List A) (n : ℕ) → places_from n test (xs ++ x ∷ []) ≡ (if test x then places_from n test xs ++ (n + length xs) ∷ [] else places_from n test xs)
+  from_more [] n = let none : n ≡ n + 0 = omega (arith) in ap (λ m. if test x then m ∷ [] else []) none
+  from_more (y ∷ ys) n = by (test y) (test x) (from_more ys (n + 1))
+    where
+      one : n + 1 + length ys ≡ n + length (y ∷ ys)
+      one = omega (arith)
+
+      by : (b c : Bool) → places_from (n + 1) test (ys ++ x ∷ []) ≡ (if c then places_from (n + 1) test ys ++ (n + 1 + length ys) ∷ [] else places_from (n + 1) test ys)
+          → (if b then n ∷ places_from (n + 1) test (ys ++ x ∷ []) else places_from (n + 1) test (ys ++ x ∷ []))
+          ≡ (if c then (if b then n ∷ places_from (n + 1) test ys else places_from (n + 1) test ys) ++ (n + length (y ∷ ys)) ∷ [] else (if b then n ∷ places_from (n + 1) test ys else places_from (n + 1) test ys))
+      by true true h = ap (λ r. n ∷ r) (h ∙ ap (λ m. places_from (n + 1) test ys ++ m ∷ []) one)
+      by true false h = ap (λ r. n ∷ r) h
+      by false true h = h ∙ ap (λ m. places_from (n + 1) test ys ++ m ∷ []) one
+      by false false h = h
+
+  -- the place of an item that came is added where the item passes
+  pub one_more : (xs : List A) (old new : List ℕ) (place : ℕ) (passes : Bool) → passes ≡ test x → place ≡ length xs → old ≡ places_of test xs
+      → new ≡ (if passes then old ++ place ∷ [] else old) → new ≡ places_of test (xs ++ x ∷ [])
+  one_more xs old new place passes is at has more =
+      let none : length xs ≡ 0 + length xs = omega (arith) in
+      more ∙ rw (is, at, has) (ap (λ n. if test x then places_of test xs ++ n ∷ [] else places_of test xs) none) ∙ sym (from_more xs 0)
+
+-- at the places of the items that pass stand these items, in their order
+module _ {A : Type 0} (test : A → Bool) where
+  at_length : (front : List A) (x : A) (xs : List A) → slice_get (front ++ x ∷ xs) (length front) ≡ Some x
+  at_length [] x xs = refl
+  at_length (y ∷ front) x xs = at_length front x xs
+
+  at_from : (front xs : List A) → map (slice_get (front ++ xs)) (places_from (length front) test xs) ≡ map Some (filter test xs)
+  at_from front [] = refl
+  at_from front (x ∷ xs) = by (test x) (shifted (at_from (front ++ x ∷ []) xs))
+    where
+      shifted : map (slice_get ((front ++ x ∷ []) ++ xs)) (places_from (length (front ++ x ∷ [])) test xs) ≡ map Some (filter test xs)
+          → map (slice_get (front ++ x ∷ xs)) (places_from (length front + 1) test xs) ≡ map Some (filter test xs)
+      shifted h =
+          let whole : (front ++ x ∷ []) ++ xs ≡ front ++ x ∷ xs = append_assoc front (x ∷ []) xs in
+          let one_more : length (front ++ x ∷ []) ≡ length front + 1 = omega (arith, length-append front (x ∷ [])) in
+          rw (whole, one_more) at h
+
+      by : (b : Bool) → map (slice_get (front ++ x ∷ xs)) (places_from (length front + 1) test xs) ≡ map Some (filter test xs)
+          → map (slice_get (front ++ x ∷ xs)) (if b then length front ∷ places_from (length front + 1) test xs else places_from (length front + 1) test xs)
+          ≡ map Some (if b then x ∷ filter test xs else filter test xs)
+      by true h = ap (λ os. slice_get (front ++ x ∷ xs) (length front) ∷ os) h ∙ ap (λ o. o ∷ map Some (filter test xs)) (at_length front x xs)
+      by false h = h
+
+  pub at_places : (xs : List A) → map (slice_get xs) (places_of test xs) ≡ map Some (filter test xs)
+  at_places xs = at_from [] xs
