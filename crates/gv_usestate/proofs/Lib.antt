@@ -1,0 +1,2 @@
+mod Expanded
+mod RulesAtPlaces

@@ -1,0 +1,27 @@
+//! What a profile makes of the flags of a package (PMS chapters 5 and 11).
+//!
+//! Stands on the records and definitions of `gv_facts`. The layers above use that `effective` and `state` equal the
+//! definitions of these names there.
+//!
+//! - `sources`: whether a flag is effective, source by source, without a list of the effective flags.
+//! - `flags`: that list.
+//! - `restricted`: where stable restrictions apply.
+//! - `states`: the state of a flag, by the rules that name it and no others.
+//!
+//! A word is compared in O(bytes). `state` costs O(log n) comparisons for n names of flags in rules, O(the package's
+//! flags and keywords), O(the words of IUSE_IMPLICIT), O(the names of USE_EXPAND and USE_EXPAND_UNPREFIXED), for each
+//! implicit name among them that fits O(the names of variables and the values of that name), and O(the rules that name
+//! the flag, each with its atom); it takes no memory. `effective` costs O(bytes of all sources) to copy them, and the
+//! comparisons of a sort.
+#![tactic(auto)]
+
+mod flags;
+mod restricted;
+mod sources;
+mod states;
+#[cfg(test)]
+mod tests;
+
+pub use flags::effective;
+pub use gv_facts::FlagState;
+pub use states::state;
