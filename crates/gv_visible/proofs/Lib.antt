@@ -1,0 +1,3 @@
+mod MaskPlaces
+pub mod NameMap
+mod NextPlaces

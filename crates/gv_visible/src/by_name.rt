@@ -1,0 +1,62 @@
+//! Packages by category and name.
+//!
+//! `new` costs O(1) on average for each package, besides its look-up in the list of packages; `at` costs a look-up by hash,
+//! O(bytes of category and name), and takes no memory.
+ghost use Rattle.std.specs.Prelude.{◌≡◌, IfOk};
+ghost use Rattle.gv_facts.specs.Places.{is_pkg_of, places_of};
+
+use gv_base::NoMemory;
+use gv_facts::Pkgs;
+use indexmap::IndexMap;
+use std::alloc::Global;
+use std::marker::Model;
+
+/// A list of packages with the places of those of each category and name.
+#[derive(Drop)]
+pub struct ByName<'a> {
+    pkgs: &'a Pkgs,
+    places: IndexMap<(&'a [u8], &'a [u8]), &'a [u32]>,
+}
+
+impl<'a> Model for ByName<'a> {
+    ghost use Rattle.std.specs.Prelude.{List};
+    ghost use Rattle.gv_facts.specs.declared.pkg.Pkg.{Pkg};
+    ghost use Rattle.gv_visible.specs.NamesAt.{HasPlaces};
+
+    ghost Value = { List Pkg };
+
+    ghost view = { λ l. l.pkgs.now };
+
+    ghost invariant = { λ l. HasPlaces l.places.entries l.pkgs.now };
+}
+
+impl<'a> ByName<'a> {
+    pub fn new(alloc: Global, pkgs: &'a Pkgs) -> Result<ByName<'a>, NoMemory>
+        ensures { IfOk result (λ by_name. by_name ≡ pkgs.now) }
+    {
+        let mut places = IndexMap::new(alloc);
+        for pkg in pkgs.items() {
+            let category = pkg.category.bytes();
+            let name = pkg.name.bytes();
+            places.insert((category, name), pkgs.places_of(category, name))?;
+        }
+        Ok(ByName { pkgs, places })
+    }
+
+    /// The packages.
+    pub fn pkgs(&self) -> &'a Pkgs
+        ensures { result.now ≡ self.now }
+    {
+        self.pkgs
+    }
+
+    /// The places of the packages of this category and name.
+    pub fn at(&self, category: &[u8], name: &[u8]) -> &[u32]
+        ensures { result.now ≡ places_of (is_pkg_of category.now name.now) self.now }
+    {
+        match self.places.get(&(category, name)) {
+            Some(places) => places,
+            None => &[],
+        }
+    }
+}

@@ -1,0 +1,28 @@
+//! A search as the layers above make it, with a closure that captures the profile and the level. The crate's tests call
+//! it; it stands here so that the check sees which closures `Candidates::new` takes.
+ghost use Rattle.std.specs.Prelude.{◌≡◌, IfOk};
+ghost use Rattle.std.specs.List.{find};
+ghost use Rattle.gv_facts.specs.Places.{places_of};
+ghost use Rattle.gv_visible.specs.Shown.{is_from, shows};
+
+use crate::{Candidates, visible};
+use gv_atom::Atom;
+use gv_base::NoMemory;
+use gv_facts::{Level, Pkg, Pkgs, Profile};
+use std::alloc::Global;
+
+/// The number of the next visible package that the atom asks for.
+pub(crate) fn next_visible(
+    alloc: Global,
+    pkgs: &Pkgs,
+    profile: &Profile,
+    level: Level,
+    atom: &Atom,
+    from: u32,
+) -> Result<Option<u32>, NoMemory>
+    ensures { IfOk result (λ next. next ≡ find (is_from from) (places_of (shows profile.now level atom.now) pkgs.now)) }
+{
+    let test = |pkg: &Pkg| visible(pkg, profile, level);
+    let candidates = Candidates::new(alloc, pkgs, profile, level, test)?;
+    Ok(candidates.next(atom, from))
+}

@@ -1,0 +1,250 @@
+//! Visible packages, and candidates with their stored test, on records made by hand from PMS chapters 5 and 7. Each line
+//! of a table is one case.
+use crate::caller::next_visible;
+use crate::{Candidates, judged, visible};
+use gv_atom::{Atom, read_atom};
+use gv_base::{Text, Texts, words_of};
+use gv_facts::{Eapi, Level, Mask, Masks, Pkg, Pkgs, Profile, Rules, Status, ValueLists};
+use gv_version::read_version;
+use std::alloc::Global;
+use std::process::Abort;
+
+fn text<R: Abort>(rt: &R, alloc: Global, bytes: &str) -> Text {
+    Text::of(alloc, bytes.as_bytes()).expect(rt, "memory")
+}
+
+fn texts<R: Abort>(rt: &R, alloc: Global, words: &str) -> Texts {
+    words_of(alloc, words.as_bytes()).expect(rt, "memory")
+}
+
+fn atom<R: Abort>(rt: &R, alloc: Global, bytes: &str) -> Atom {
+    read_atom(alloc, bytes.as_bytes()).expect(rt, "an atom")
+}
+
+// A package in slot 0/3.
+fn pkg<R: Abort>(
+    rt: &R,
+    alloc: Global,
+    category: &str,
+    name: &str,
+    version: &str,
+    keywords: &str,
+) -> Pkg {
+    Pkg {
+        category: text(rt, alloc, category),
+        name: text(rt, alloc, name),
+        version: read_version(alloc, version.as_bytes()).expect(rt, "a version"),
+        pf: text(rt, alloc, name),
+        eapi: Eapi::Eight,
+        slot: text(rt, alloc, "0"),
+        sub: text(rt, alloc, "3"),
+        keywords: texts(rt, alloc, keywords),
+        iuse: texts(rt, alloc, ""),
+        iuse_plus: texts(rt, alloc, ""),
+        live: false,
+    }
+}
+
+fn masks<R: Abort>(rt: &R, alloc: Global, lines: &str) -> Masks {
+    let mut masks = Masks::new(alloc);
+    for line in lines.split(',') {
+        if !line.is_empty() {
+            let mask = Mask {
+                text: text(rt, alloc, line),
+                atom: atom(rt, alloc, line),
+            };
+            masks.add(mask).expect(rt, "memory");
+        }
+    }
+    masks
+}
+
+fn profile<R: Abort>(rt: &R, alloc: Global, lines: &str) -> Profile {
+    Profile {
+        line: 1,
+        arch: text(rt, alloc, "amd64"),
+        path: text(rt, alloc, "base"),
+        status: Status::Stable,
+        iuse_implicit: Texts::new(alloc),
+        expand: Texts::new(alloc),
+        expand_implicit: Texts::new(alloc),
+        unprefixed: Texts::new(alloc),
+        values: ValueLists::new(alloc),
+        masks: masks(rt, alloc, lines),
+        rules: Rules::new(alloc),
+    }
+}
+
+fn level_text(level: Option<Level>) -> &'static str {
+    match level {
+        Some(Level::Stable) => "stable",
+        Some(Level::Testing) => "testing",
+        None => "none",
+    }
+}
+
+fn shown_text(pkg: &Pkg, profile: &Profile) -> &'static str {
+    match (
+        visible(pkg, profile, Level::Stable),
+        visible(pkg, profile, Level::Testing),
+    ) {
+        (true, true) => "both",
+        (true, false) => "stable",
+        (false, true) => "testing",
+        (false, false) => "neither",
+    }
+}
+
+fn is_judged<R: Abort>(rt: &R, alloc: Global, keywords: &str, masks: &str, want: &str) {
+    let pkg = pkg(rt, alloc, "x", "y", "1.2", keywords);
+    let profile = profile(rt, alloc, masks);
+    let got = (
+        shown_text(&pkg, &profile),
+        level_text(judged(&pkg, &profile)),
+    );
+    assert_eq!(rt; want.split_once(' '), Some(got));
+}
+
+/// Keywords and masks, then at which levels x/y-1.2:0/3 is visible and at which it is judged.
+const JUDGED: &str = "\
+amd64;;both stable
+~amd64;;testing testing
+~amd64 amd64;;both stable
+x86 ~arm;;neither none
+-amd64;;neither none
+-*;;neither none
+;;neither none
+amd;;neither none
+~amd64-linux;;neither none
+amd64;x/y;neither none
+~amd64;x/y;neither none
+amd64;x/z,z/y,y/x;both stable
+amd64;x/z,=x/y-1.3,x/y:0;neither none
+amd64;x/y:0;neither none
+amd64;x/y:1;both stable
+amd64;x/y:0/3;neither none
+amd64;x/y:0/0;both stable
+amd64;<x/y-1.2;both stable
+amd64;<=x/y-1.2;neither none
+amd64;>=x/y-1;neither none
+amd64;>x/y-1.2;both stable
+amd64;=x/y-1*;neither none
+amd64;=x/y-1.2*;neither none
+amd64;=x/y-1.20*;both stable
+amd64;=x/y-2*;both stable
+amd64;~x/y-1.2;neither none
+amd64;=x/y-1.2-r1;both stable";
+
+#[test]
+fn keywords_accept_and_masks_hide(rt: HostRuntime) {
+    let alloc = rt.alloc();
+    for line in JUDGED.lines() {
+        if let Some((keywords, rest)) = line.split_once(';') {
+            if let Some((masks, want)) = rest.split_once(';') {
+                is_judged(&rt, alloc, keywords, masks, want);
+            }
+        }
+    }
+}
+
+/// Packages in order: category, name, version, keyword.
+const PKGS: &str = "\
+x y 1 amd64
+x z 1 amd64
+x y 2 amd64
+z y 1 amd64
+x y 3 ~amd64
+x y 4 amd64";
+
+fn pkgs<R: Abort>(rt: &R, alloc: Global) -> Pkgs {
+    let mut pkgs = Pkgs::new(alloc);
+    for line in PKGS.lines() {
+        let mut words = line.split(' ');
+        if let (Some(category), Some(name), Some(version), Some(keyword)) = (
+            words.next(),
+            words.next(),
+            words.next(),
+            words.next(),
+        ) {
+            let pkg = pkg(rt, alloc, category, name, version, keyword);
+            pkgs.add(pkg).expect(rt, "memory");
+        }
+    }
+    pkgs
+}
+
+/// Atoms, a number, and the next number from it on at stable and at testing, where =x/y-2 is masked.
+const NEXT: &str = "\
+x/y 0 0 0
+x/y 1 5 4
+x/y 2 5 4
+x/y 3 5 4
+x/y 4 5 4
+x/y 5 5 5
+x/y 6 - -
+x/y 4294967295 - -
+x/z 0 1 1
+x/z 1 1 1
+x/z 2 - -
+z/y 0 3 3
+z/y 3 3 3
+z/y 4 - -
+x/n 0 - -
+z/z 0 - -
+<x/y-3 0 0 0
+<x/y-3 1 - -
+=x/y-2 0 - -
+>x/y-1 0 5 4
+>x/y-1 5 5 5
+=x/y-3* 0 - 4
+x/y:0/3 1 5 4
+x/y:1 0 - -
+!x/y 1 5 4";
+
+fn found<R: Abort>(
+    rt: &R,
+    alloc: Global,
+    pkgs: &Pkgs,
+    profile: &Profile,
+    level: Level,
+    bytes: &str,
+    from: u32,
+) -> Option<u32> {
+    let atom = atom(rt, alloc, bytes);
+    next_visible(alloc, pkgs, profile, level, &atom, from).expect(rt, "memory")
+}
+
+#[test]
+fn the_next_candidate_is_visible_and_not_before(rt: HostRuntime) {
+    let alloc = rt.alloc();
+    let pkgs = pkgs(&rt, alloc);
+    let profile = profile(&rt, alloc, "=x/y-2");
+    for line in NEXT.lines() {
+        let mut words = line.split(' ');
+        if let (Some(atom), Some(from), Some(stable), Some(testing)) = (
+            words.next(),
+            words.next(),
+            words.next(),
+            words.next(),
+        ) {
+            let from: u32 = from.parse().expect(&rt, "a number");
+            let at_stable = found(&rt, alloc, &pkgs, &profile, Level::Stable, atom, from);
+            let at_testing = found(&rt, alloc, &pkgs, &profile, Level::Testing, atom, from);
+            assert_eq!(&rt; at_stable, stable.parse().ok());
+            assert_eq!(&rt; at_testing, testing.parse().ok());
+        }
+    }
+}
+
+#[test]
+fn candidates_tell_what_they_were_given(rt: HostRuntime) {
+    let alloc = rt.alloc();
+    let pkgs = pkgs(&rt, alloc);
+    let profile = profile(&rt, alloc, "");
+    let level = Level::Testing;
+    let test = |pkg: &Pkg| visible(pkg, &profile, level);
+    let candidates = Candidates::new(alloc, &pkgs, &profile, level, test).expect(&rt, "memory");
+    assert!(&rt; candidates.level() == level);
+    assert_eq!(&rt; candidates.pkgs().items().len(), 6);
+    assert_eq!(&rt; candidates.profile().line, 1);
+}
