@@ -1,0 +1,9 @@
+mod AllowedLaw
+mod ClassFaults
+mod DigestLaw
+mod Examples
+mod HexLaw
+mod Hyphens
+mod LeastLaw
+mod TabCuts
+mod ValueLaw

@@ -1,0 +1,9 @@
+pub mod Allowed
+pub mod Details
+pub mod Digests
+pub mod EntryRead
+pub mod EntryValues
+pub mod Holds
+pub mod Laws
+pub mod Least
+pub mod Weight

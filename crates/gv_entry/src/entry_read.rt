@@ -1,0 +1,287 @@
+//! Reading a cache entry (PMS chapter 14, md5-dict). O(bytes).
+ghost use Rattle.std.specs.Prelude.{◌≡◌, ◌+◌, ◌++◌, [], true, codes, drop, None, Some, take, unwrap_or, IfOk, IsSome, OnOk};
+ghost use Rattle.gv_expr.specs.ReqRead.{read_required};
+ghost use Rattle.gv_expr.specs.TokenFaults.{dependency};
+ghost use Rattle.gv_facts.specs.declared.kinds.Class.TheVariants.{Required};
+ghost use Rattle.gv_facts.specs.Classes.{class_text};
+ghost use Rattle.gv_base.specs.Words.{tokens_of};
+ghost use Rattle.gv_version.specs.Names.{split_pf};
+ghost use Rattle.gv_version.specs.VersionForm.{is_version};
+ghost use Rattle.gv_entry.specs.Details.{body_details, class_details, errors_of, head_details, head_details_with, language_of};
+ghost use Rattle.gv_entry.specs.EntryRead.{body_of, dep_in, entry_of, entry_with, head_of, head_with, pkg_with};
+ghost use Rattle.gv_entry.specs.EntryValues.{AreValues, value_of};
+
+use crate::details::{note_slot, note_text, note_token, note_word};
+use crate::digests::{digest_in, eclasses_of};
+use crate::entry_values::{
+    Values, bad_flag, bad_keyword, eapi_of, flags_of, plus_flags_of, slot_of, values_of,
+};
+use crate::{Body, Entry, EntryErrors};
+use gv_base::{NoMemory, Text, Texts, tokens_of};
+use gv_expr::{DepExpr, ExprFault, UseExpr, read_dep, read_required};
+use gv_facts::{Class, Eapi, Pkg, has_class};
+use gv_version::{Version, VersionFault, read_version, split_pf, split_pf_law};
+use std::alloc::Global;
+
+fn required_in(
+    alloc: Global,
+    eapi: Eapi,
+    values: &Values,
+    errors: &mut EntryErrors,
+) -> Result<Option<UseExpr>, NoMemory>
+    requires { AreValues values.now }
+    ensures required { IfOk result (λ required. required ≡ read_required (value_of (class_text Required) values.now.bytes.now)) }
+    ensures errors { OnOk result (errors.new ≡ errors.old ++ errors_of (class_details eapi values.now.bytes.now Required)) }
+{
+    match read_required(alloc, values.of_class(Class::Required)) {
+        Ok(required) => Ok(Some(required)),
+        Err(ExprFault::Bad { token, kind }) => {
+            note_token(alloc, Class::Required, token, kind, errors)?;
+            Ok(None)
+        }
+        Err(ExprFault::NoMemory) => Err(NoMemory),
+    }
+}
+
+fn dep_in(
+    alloc: Global,
+    eapi: Eapi,
+    values: &Values,
+    class: Class,
+    errors: &mut EntryErrors,
+) -> Result<Option<DepExpr>, NoMemory>
+    requires values { AreValues values.now }
+    requires class { language_of class ≡ dependency }
+    ensures dep { IfOk result (λ dep. dep ≡ dep_in eapi values.now.bytes.now class) }
+    ensures errors { OnOk result (errors.new ≡ errors.old ++ errors_of (class_details eapi values.now.bytes.now class)) }
+{
+    if !has_class(eapi, class) {
+        return Ok(Some(DepExpr::new(alloc)));
+    }
+    match read_dep(alloc, values.of_class(class)) {
+        Ok(dep) => Ok(Some(dep)),
+        Err(ExprFault::Bad { token, kind }) => {
+            note_token(alloc, class, token, kind, errors)?;
+            Ok(None)
+        }
+        Err(ExprFault::NoMemory) => Err(NoMemory),
+    }
+}
+
+fn body_of(
+    alloc: Global,
+    eapi: Eapi,
+    values: &Values,
+    errors: &mut EntryErrors,
+) -> Result<Body, NoMemory>
+    requires { AreValues values.now }
+    ensures body { IfOk result (λ body. body ≡ body_of (Some eapi) values.now.bytes.now) }
+    ensures errors { OnOk result (errors.new ≡ errors.old ++ errors_of (body_details eapi values.now.bytes.now)) }
+{
+    Ok(Body {
+        required: required_in(alloc, eapi, values, errors)?,
+        depend: dep_in(alloc, eapi, values, Class::Depend, errors)?,
+        bdepend: dep_in(alloc, eapi, values, Class::Bdepend, errors)?,
+        rdepend: dep_in(alloc, eapi, values, Class::Rdepend, errors)?,
+        pdepend: dep_in(alloc, eapi, values, Class::Pdepend, errors)?,
+        idepend: dep_in(alloc, eapi, values, Class::Idepend, errors)?,
+    })
+}
+
+// The expressions of an entry whose EAPI isn't supported.
+fn empty_body(alloc: Global) -> Body
+    ensures { result ≡ body_of None [] }
+{
+    Body {
+        required: Some(UseExpr::new(alloc)),
+        depend: Some(DepExpr::new(alloc)),
+        bdepend: Some(DepExpr::new(alloc)),
+        rdepend: Some(DepExpr::new(alloc)),
+        pdepend: Some(DepExpr::new(alloc)),
+        idepend: Some(DepExpr::new(alloc)),
+    }
+}
+
+fn version_in(alloc: Global, bytes: &[u8]) -> Result<Version, NoMemory>
+    requires { is_version bytes.now ≡ true }
+    ensures { IfOk result (λ version. version ≡ bytes.now) }
+{
+    match read_version(alloc, bytes) {
+        Ok(version) => Ok(version),
+        Err(VersionFault::NoMemory) => Err(NoMemory),
+        Err(_) => unreachable!(),
+    }
+}
+
+// The name and the version that a PF is divided into. A place past 2^32 finds no memory.
+fn name_and_version(alloc: Global, pf: &[u8]) -> Result<(Text, Version), NoMemory>
+    requires { IsSome (split_pf pf.now) }
+    ensures name { IfOk result (λ both. both.0 ≡ take (unwrap_or (split_pf pf.now) 0) pf.now) }
+    ensures version { IfOk result (λ both. both.1 ≡ drop (unwrap_or (split_pf pf.now) 0 + 1) pf.now) }
+{
+    let Some(hyphen) = split_pf(pf) else {
+        return Err(NoMemory);
+    };
+    split_pf_law();
+    let (name, behind) = pf.split_at(hyphen as usize);
+    let [_, version @ ..] = behind else {
+        unreachable!();
+    };
+    Ok((Text::of(alloc, name)?, version_in(alloc, version)?))
+}
+
+// The package whose entry it is.
+#[derive(Clone, Copy)]
+struct Named<'a> {
+    category: &'a Text,
+    pf: &'a Text,
+}
+
+// The words of the keys that have words.
+#[derive(Drop)]
+struct EntryWords {
+    keywords: Texts,
+    iuse: Texts,
+    properties: Texts,
+}
+
+fn words_in(alloc: Global, values: &Values) -> Result<EntryWords, NoMemory>
+    requires { AreValues values.now }
+    ensures keywords { IfOk result (λ words. words.keywords ≡ tokens_of (value_of (codes "KEYWORDS") values.now.bytes.now)) }
+    ensures iuse { IfOk result (λ words. words.iuse ≡ tokens_of (value_of (codes "IUSE") values.now.bytes.now)) }
+    ensures properties { IfOk result (λ words. words.properties ≡ tokens_of (value_of (codes "PROPERTIES") values.now.bytes.now)) }
+{
+    Ok(EntryWords {
+        keywords: tokens_of(alloc, values.keywords)?,
+        iuse: tokens_of(alloc, values.iuse)?,
+        properties: tokens_of(alloc, values.properties)?,
+    })
+}
+
+fn pkg_with(
+    alloc: Global,
+    named: &Named,
+    eapi: Eapi,
+    slots: (Text, Text),
+    words: EntryWords,
+) -> Result<Pkg, NoMemory>
+    requires { IsSome (split_pf named.now.pf.now) }
+    ensures { IfOk result (λ pkg. pkg ≡ pkg_with named.now.category.now named.now.pf.now (unwrap_or (split_pf named.now.pf.now) 0) eapi slots words.keywords words.iuse words.properties) }
+{
+    let (name, version) = name_and_version(alloc, named.pf.bytes())?;
+    let (slot, sub) = slots;
+    Ok(Pkg {
+        category: named.category.copy(alloc)?,
+        name,
+        version,
+        pf: named.pf.copy(alloc)?,
+        eapi,
+        slot,
+        sub,
+        iuse: flags_of(alloc, &words.iuse)?,
+        iuse_plus: plus_flags_of(alloc, &words.iuse)?,
+        live: words.properties.has(b"live"),
+        keywords: words.keywords,
+    })
+}
+
+// The package, where there is a slot and no bad word.
+fn head_with(
+    alloc: Global,
+    named: &Named,
+    eapi: Eapi,
+    slots: Option<(Text, Text)>,
+    bad: (Option<usize>, Option<usize>),
+    words: EntryWords,
+) -> Result<Option<Pkg>, NoMemory>
+    requires { IsSome (split_pf named.now.pf.now) }
+    ensures { IfOk result (λ head. head ≡ head_with named.now.category.now named.now.pf.now eapi slots bad.0 bad.1 words.keywords words.iuse words.properties) }
+{
+    match (slots, bad) {
+        (Some(slots), (None, None)) => Ok(Some(pkg_with(alloc, named, eapi, slots, words)?)),
+        _ => Ok(None),
+    }
+}
+
+// Notes what is wrong with SLOT, KEYWORDS and IUSE.
+fn note_head(
+    alloc: Global,
+    has_slot: bool,
+    bad: (Option<usize>, Option<usize>),
+    errors: &mut EntryErrors,
+) -> Result<(), NoMemory>
+    ensures { OnOk result (errors.new ≡ errors.old ++ errors_of (head_details_with has_slot bad.0 bad.1)) }
+{
+    note_slot(alloc, has_slot, errors)?;
+    note_word(alloc, b"KEYWORDS", bad.0, errors)?;
+    note_word(alloc, b"IUSE", bad.1, errors)?;
+    Ok(())
+}
+
+fn head_of(
+    alloc: Global,
+    named: &Named,
+    eapi: Eapi,
+    values: &Values,
+    errors: &mut EntryErrors,
+) -> Result<Option<Pkg>, NoMemory>
+    requires pf { IsSome (split_pf named.now.pf.now) }
+    requires values { AreValues values.now }
+    ensures head { IfOk result (λ head. head ≡ head_of named.now.category.now named.now.pf.now (Some eapi) values.now.bytes.now) }
+    ensures errors { OnOk result (errors.new ≡ errors.old ++ errors_of (head_details values.now.bytes.now)) }
+{
+    let slots = slot_of(alloc, values.slot)?;
+    let words = words_in(alloc, values)?;
+    let bad = (bad_keyword(&words.keywords), bad_flag(&words.iuse));
+    note_head(alloc, slots.is_some(), bad, errors)?;
+    let head = head_with(alloc, named, eapi, slots, bad, words)?;
+    Ok(head)
+}
+
+// The entry with this package, these expressions and errors.
+fn entry_with(
+    alloc: Global,
+    values: &Values,
+    head: Option<Pkg>,
+    body: Body,
+    errors: EntryErrors,
+) -> Result<Entry, NoMemory>
+    requires { AreValues values.now }
+    ensures { IfOk result (λ entry. entry ≡ entry_with values.now.bytes.now head body errors) }
+{
+    Ok(Entry {
+        digest: digest_in(values.md5),
+        eclasses: eclasses_of(alloc, values.eclasses)?,
+        head,
+        body,
+        errors,
+    })
+}
+
+/// The entry that the bytes are, of the package with this category and this PF. Of two lines of a key the first counts, a
+/// key without a line is empty, and lines of other keys are ignored. All errors are told, but an EAPI that isn't
+/// supported stands alone. The PF has to be one: `split_pf` divides it into a name and a version.
+pub fn read_entry(
+    alloc: Global,
+    category: &Text,
+    pf: &Text,
+    bytes: &[u8],
+) -> Result<Entry, NoMemory>
+    requires { IsSome (split_pf pf.now) }
+    ensures { IfOk result (λ entry. entry ≡ entry_of category.now pf.now bytes.now) }
+{
+    let values = values_of(bytes);
+    let named = Named { category, pf };
+    let mut errors = EntryErrors::new(alloc);
+    match eapi_of(values.eapi) {
+        Some(eapi) => {
+            let head = head_of(alloc, &named, eapi, &values, &mut errors)?;
+            let body = body_of(alloc, eapi, &values, &mut errors)?;
+            entry_with(alloc, &values, head, body, errors)
+        }
+        None => {
+            note_text(alloc, b"EAPI: unsupported", &mut errors)?;
+            entry_with(alloc, &values, None, empty_body(alloc), errors)
+        }
+    }
+}
