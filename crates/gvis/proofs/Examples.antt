@@ -1,10 +1,10 @@
 -- Worked examples of entries and reports.
-use Rattle.std.specs.Prelude.{◌≡◌, ℕ, true, false, List, [], ◌∷◌, ◌++◌, None, Some, map, refl, codes}
-use Rattle.gvis.specs.declared.facts.Member.{Member}
-use Rattle.gvis.specs.declared.facts.Status.TheVariants.{Stable, Exp}
-use Rattle.gvis.specs.declared.entry.EntryRead.TheVariants.{NoPackage, NotBuilt}
-use Rattle.gvis.specs.EntryRead.{entry_of}
-use Rattle.gvis.specs.EntryValues.{value_of, is_slot_value, is_keyword_word, is_iuse_word}
+use Rattle.std.specs.Prelude.{◌≡◌, ℕ, List, [], ◌∷◌, ◌++◌, None, Some, map, refl, codes}
+use Rattle.gvis.specs.declared.repo.Member.{Member}
+use Rattle.gv_facts.specs.declared.kinds.Status.TheVariants.{Stable, Exp}
+use Rattle.gv_entry.specs.EntryRead.{entry_of}
+use Rattle.gvis.specs.declared.faults.LoadFault.TheVariants.{NotBuilt}
+use Rattle.gvis.specs.Reading.{not_built}
 use Rattle.gvis.specs.RepoReports.{scan_text, first_wide}
 use Rattle.gvis.proofs.Worlds.{profile_of, base_with, mask, unmask, of_entry, usual, app, other, repo_of}
 
@@ -49,19 +49,19 @@ least_witness = refl
 
 -- a package that is judged at testing sees packages of both kinds
 at_testing : scan_text (repo_of (base_with [] ∷ [])
-    (of_entry (codes "app") (codes "p") 1 (codes "p-1") (codes "EAPI=7\nSLOT=0/2\nKEYWORDS=x86 ~amd64\nBDEPEND=x/y x/z\nIDEPEND=x/none\n")
-    ++ (other (codes "EAPI=8\nSLOT=0\nKEYWORDS=~amd64\n") ++ of_entry (codes "x") (codes "z") 0 (codes "z-0") (usual []))))
+    (of_entry (codes "app") (codes "p-1") (codes "EAPI=7\nSLOT=0/2\nKEYWORDS=x86 ~amd64\nBDEPEND=x/y x/z\nIDEPEND=x/none\n")
+    ++ (other (codes "EAPI=8\nSLOT=0\nKEYWORDS=~amd64\n") ++ of_entry (codes "x") (codes "z-0") (usual []))))
     ≡ []
 at_testing = refl
 
 -- a package that is not judged is not seen either
-elsewhere : scan_text (repo_of (base_with [] ∷ []) (of_entry (codes "app") (codes "p") 1 (codes "p-1") (codes "EAPI=5\nSLOT=0\nKEYWORDS=x86 -amd64\nDEPEND=x/y\n"))) ≡ []
+elsewhere : scan_text (repo_of (base_with [] ∷ []) (of_entry (codes "app") (codes "p-1") (codes "EAPI=5\nSLOT=0\nKEYWORDS=x86 -amd64\nDEPEND=x/y\n"))) ≡ []
 elsewhere = refl
 
--- packages by category, name, version as a number; keywords, classes, lines
+-- packages by category, name, version by the version order; keywords, classes, lines
 in_their_order : scan_text (repo_of (base_with [] ∷ profile_of 3 (codes "amd64") (codes "new") Exp [] ∷ profile_of 4 (codes "amd64") (codes "dev") Stable [] ∷ [])
-    (of_entry (codes "app") (codes "p") 10 (codes "p-10") (usual (codes "RDEPEND=x/y\n"))
-    ++ (of_entry (codes "app") (codes "p") 2 (codes "p-2") (usual (codes "RDEPEND=x/y\nDEPEND=x/z\n")))))
+    (of_entry (codes "app") (codes "p-10") (usual (codes "RDEPEND=x/y\n"))
+    ++ (of_entry (codes "app") (codes "p-2") (usual (codes "RDEPEND=x/y\nDEPEND=x/z\n")))))
     ≡ codes "app/p-2: NonsolvableDepsInStable: DEPEND: amd64 base stable: USE=\"\": x/z\n"
     ++ (codes "app/p-2: NonsolvableDepsInStable: DEPEND: amd64 dev stable: USE=\"\": x/z\n"
     ++ (codes "app/p-2: NonsolvableDepsInStable: RDEPEND: amd64 base stable: USE=\"\": x/y\n"
@@ -72,6 +72,39 @@ in_their_order : scan_text (repo_of (base_with [] ∷ profile_of 3 (codes "amd64
     ++ (codes "app/p-10: NonsolvableDepsInStable: RDEPEND: amd64 dev stable: USE=\"\": x/y\n"
     ++ codes "app/p-10: NonsolvableDepsInExp: RDEPEND: amd64 new stable: USE=\"\": x/y\n")))))))
 in_their_order = refl
+
+-- exactly one of two flags: off is tried before on, and what isn't allowed isn't tried
+choice : scan_text (repo_of (base_with [] ∷ []) (app (usual (codes "IUSE=a b\nREQUIRED_USE=^^ ( a b )\nRDEPEND=b? ( x/none )\n"))))
+    ≡ codes "app/p-1: NonsolvableDepsInStable: RDEPEND: amd64 base stable: USE=\"-a b\": b? ( x/none )\n"
+choice = refl
+
+-- an empty `||` is met in EAPI 6 and not in EAPI 7
+any_of_none : (eapi : List ℕ) → List Member
+any_of_none eapi = app (codes "EAPI=" ++ (eapi ++ codes "\nSLOT=0\nKEYWORDS=amd64\nIUSE=a\nRDEPEND=|| ( a? ( x/none ) )\n"))
+
+empty_in_six : scan_text (repo_of (base_with [] ∷ []) (any_of_none (codes "6")))
+    ≡ codes "app/p-1: NonsolvableDepsInStable: RDEPEND: amd64 base stable: USE=\"a\": || ( a? ( x/none ) )\n"
+unfolding any_of_none
+empty_in_six = refl
+
+empty_in_seven : scan_text (repo_of (base_with [] ∷ []) (any_of_none (codes "7")))
+    ≡ codes "app/p-1: NonsolvableDepsInStable: RDEPEND: amd64 base stable: USE=\"-a\": || ( a? ( x/none ) )\n"
+unfolding any_of_none
+empty_in_seven = refl
+
+-- versions and slots of the packages that an atom asks for
+versions : List Member
+versions = of_entry (codes "x") (codes "y-1.10-r1") (codes "EAPI=8\nSLOT=2/3\nKEYWORDS=amd64\n")
+
+by_version : scan_text (repo_of (base_with [] ∷ []) (app (usual (codes "RDEPEND=>x/y-1.9 =x/y-1* ~x/y-1.10 x/y:2 x/y:2/3=\nDEPEND=<x/y-1.10\nPDEPEND=x/y:3\n")) ++ versions))
+    ≡ codes "app/p-1: NonsolvableDepsInStable: DEPEND: amd64 base stable: USE=\"\": <x/y-1.10\n"
+    ++ codes "app/p-1: NonsolvableDepsInStable: PDEPEND: amd64 base stable: USE=\"\": x/y:3\n"
+unfolding versions
+by_version = refl
+
+-- a package with a broken REQUIRED_USE isn't judged, and others see it; so with a broken class of others
+broken_required : scan_text (repo_of (base_with [] ∷ []) (app (usual (codes "REQUIRED_USE=( a\nRDEPEND=x/none\n")) ++ other (usual (codes "RDEPEND=app/p\nDEPEND=app/p )\n")))) ≡ []
+broken_required = refl
 
 -- Flags of a query: twelve are tried, thirteen are too many.
 flags_from : List (List ℕ) → List ℕ
@@ -95,37 +128,13 @@ unfolding flags_from twelve wide_entry
 of_thirteen = refl
 
 -- Entries.
-no_eapi : entry_of (codes "app") (codes "p") 1 (codes "p-1") (codes "EAPI=9\nSLOT=0\nRDEPEND=|| ( )\n") ≡ NoPackage
-no_eapi = refl
+-- an atom with USE items isn't judged yet, a blocker with some is, and a broken class is passed over
+no_use_yet : not_built (codes "here") (entry_of (codes "app") (codes "p-1") (usual (codes "DEPEND=|| ( a? ( x/y[a] ) )\n"))) ≡ Some (NotBuilt (codes "here"))
+no_use_yet = refl
 
-carriage_return : entry_of (codes "app") (codes "p") 1 (codes "p-1") (codes "EAPI=8\r\nSLOT=0\n") ≡ NoPackage
-carriage_return = refl
-
--- the first line of a key counts
-first_line : value_of (codes "SLOT") (codes "XSLOT=2\nSLOT=0\nSLOT=1") ≡ codes "0"
-first_line = refl
-
-required : entry_of (codes "app") (codes "p") 1 (codes "p-1") (usual (codes "REQUIRED_USE=a\n")) ≡ NotBuilt
-required = refl
-
-no_required : entry_of (codes "app") (codes "p") 1 (codes "p-1") (codes "EAPI=9\nREQUIRED_USE=a\n") ≡ NoPackage
-no_required = refl
-
-group : entry_of (codes "app") (codes "p") 1 (codes "p-1") (usual (codes "DEPEND=|| ( x/y )\n")) ≡ NotBuilt
-group = refl
+blocker_asks : scan_text (repo_of (base_with [] ∷ []) (app (usual (codes "DEPEND=!x/none[a] !!<x/none-2\nPDEPEND=x/y[a] (\n")))) ≡ []
+blocker_asks = refl
 
 -- a class that the EAPI lacks isn't read
 not_of_the_eapi : scan_text (repo_of (base_with [] ∷ []) (app (codes "EAPI=6\nSLOT=0\nKEYWORDS=amd64\nBDEPEND=|| ( x/y )\nIDEPEND=x/y\n"))) ≡ []
 not_of_the_eapi = refl
-
-slots : map is_slot_value (codes "0" ∷ codes "0/1" ∷ codes "0/" ∷ codes "/0" ∷ [] ∷ codes "0/1/2" ∷ codes "-0" ∷ codes "0 " ∷ [])
-    ≡ true ∷ true ∷ false ∷ false ∷ false ∷ false ∷ false ∷ false ∷ []
-slots = refl
-
-keywords : map is_keyword_word (codes "amd64" ∷ codes "~amd64" ∷ codes "-amd64" ∷ codes "-*" ∷ codes "~*" ∷ codes "*" ∷ codes "--x" ∷ codes "~" ∷ [])
-    ≡ true ∷ true ∷ true ∷ true ∷ false ∷ false ∷ false ∷ false ∷ []
-keywords = refl
-
-flags : map is_iuse_word (codes "a" ∷ codes "+a" ∷ codes "-a" ∷ codes "++a" ∷ codes "_a" ∷ codes "+" ∷ [])
-    ≡ true ∷ true ∷ true ∷ false ∷ false ∷ false ∷ []
-flags = refl

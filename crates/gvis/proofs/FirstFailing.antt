@@ -6,12 +6,12 @@ use Rattle.std.specs.Prelude.{slice_get, option_map}
 use Rattle.gv_expr.specs.Dep.{Dep}
 use Rattle.gv_expr.specs.DepView.{dep_of, view_of}
 use Rattle.gv_expr.specs.declared.dep.DepTree.{DepTree}
-use Rattle.gvis.specs.Allowed.{Parent, first_failing}
-use Rattle.gvis.specs.AtomMet.{atom_met}
-use Rattle.gvis.specs.Holds.{dep_holds}
+use Rattle.gv_entry.specs.Allowed.{Parent, first_failing}
+use Rattle.gv_facts.specs.AtomMet.{atom_met}
+use Rattle.gv_entry.specs.Holds.{dep_holds, empty_holds}
 
 pub fails_here : (c : Parent) (ts : List DepTree) (class : List Dep) (i : ℕ) (t : DepTree) (on : List ℕ → Bool) → view_of ts ≡ class → i < length ts → t ≡ get_or ts i t
-    → dep_holds (dep_of t) (atom_met c.among c.profile c.level) on ≡ false → first_failing c (view_of (drop i ts)) on ≡ first_failing c class on
+    → dep_holds (dep_of t) (atom_met c.among c.profile c.level on) on (empty_holds c.pkg.eapi) ≡ false → first_failing c (view_of (drop i ts)) on ≡ first_failing c class on
     → (i < length class) × (first_failing c class on ≡ slice_get class i)
 fails_here c ts class i t on seen lt here fails rest = (
   omega (arith, ap length seen, length-map ts dep_of),

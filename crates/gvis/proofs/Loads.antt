@@ -3,13 +3,13 @@ use Rattle.std.proofs.Common.{◌≡◌, ℕ, List, ◌++◌, Some, None, refl, 
 use Rattle.std.specs.Prelude.{Option, IfSome, flat_map, filter_map}
 use Rattle.gv_base.specs.FileMap.{FileMap}
 use Rattle.gvis.specs.declared.desc.DescLine.{DescLine}
-use Rattle.gvis.specs.declared.facts.Repo.{Repo}
+use Rattle.gvis.specs.declared.repo.Repo.{Repo}
 use Rattle.gvis.specs.declared.faults.LoadFault.{LoadFault}
 use Rattle.gvis.specs.declared.faults.LoadFault.TheVariants.{Tree, NotARepository, NotBuilt, NoMemory}
 use Rattle.gvis.specs.Look.{Look, IsTold, look_in, look_of}
 use Rattle.gvis.specs.LoadCauses.{Cause, Passes, LoadCause}
-use Rattle.gvis.specs.Reading.{Refusal, Step, refused, or_else, first_of, list_steps, line_steps, category_steps, desc_lines, categories, first_refusal}
-use Rattle.gvis.specs.Repository.{profile_of, members_of, repo_of}
+use Rattle.gvis.specs.Reading.{Step, first_of, list_steps, line_steps, category_steps, desc_lines, categories, first_refusal}
+use Rattle.gvis.specs.Repository.{profile_of, members_of, repo_of, repo_with}
 use Rattle.gvis.proofs.Passing.{same_cause, front_cause, back_cause, all_pass}
 
 -- what the lists name
@@ -17,7 +17,7 @@ abbrev pub named_steps : Look → List DescLine → List (List ℕ) → List Ste
 named_steps look lines cats = flat_map (line_steps look) lines ++ flat_map (category_steps look) cats
 
 abbrev pub named_repo : Look → List DescLine → List (List ℕ) → Repo
-named_repo look lines cats = record { members = flat_map (members_of look) cats; profiles = filter_map (profile_of look) lines }
+named_repo look lines cats = repo_with (flat_map (members_of look) cats) (filter_map (profile_of look) lines)
 
 same_steps : (told : Option FileMap) (lines : List DescLine) (cats : List (List ℕ)) → (IsTold told → lines ≡ desc_lines (look_in told)) → (IsTold told → cats ≡ categories (look_in told)) →
     IsTold told → named_steps (look_in told) lines cats ≡ named_steps (look_in told) (desc_lines (look_in told)) (categories (look_in told))

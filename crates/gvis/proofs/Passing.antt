@@ -1,6 +1,6 @@
 -- Steps one behind the other.
-use Rattle.std.proofs.Common.{◌≡◌, ℕ, List, [], ◌∷◌, ◌++◌, Some, None, refl, sym, ap, subst, ◌∙◌, ◌+◌, ◌<◌, suc, length, drop, get_or, drop-cons, add-one, append_assoc}
-use Rattle.std.specs.Prelude.{Option, IfSome, option_to_list, filter_map, flat_map}
+use Rattle.std.proofs.Common.{◌≡◌, ℕ, List, [], ◌∷◌, ◌++◌, Some, None, refl, sym, ap, ◌∙◌, ◌+◌, ◌<◌, suc, length, drop, get_or, drop-cons, add-one, append_assoc}
+use Rattle.std.specs.Prelude.{Option, option_to_list, filter_map}
 use Rattle.std.specs.List.{cons_option}
 use Rattle.gv_base.specs.FileMap.{FileMap}
 use Rattle.gvis.specs.declared.faults.LoadFault.{LoadFault}

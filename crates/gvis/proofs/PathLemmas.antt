@@ -2,7 +2,7 @@
 use Rattle.std.proofs.Common.{◌≡◌, ℕ, ◌-◌, List, [], ◌∷◌, ◌++◌, Some, None, refl, sym, ap, ◌∙◌, take, drop, length, arith}
 use Rattle.std.specs.Prelude.{Option, fold}
 use Rattle.std.proofs.lemmas.List.{take_all}
-use Rattle.gvis.specs.Paths.{Place, place_after, path_of, tail_of}
+use Rattle.gvis.specs.Paths.{place_after, path_of, tail_of}
 
 pub lost : (parts : List (List ℕ)) → fold place_after None parts ≡ None
 lost [] = refl

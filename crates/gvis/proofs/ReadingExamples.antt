@@ -1,17 +1,17 @@
 -- Lines, paths, names and small trees, by their computed values.
-use Rattle.std.proofs.Common.{◌≡◌, ℕ, List, [], ◌∷◌, ◌++◌, Bool, true, false, Some, None, refl}
-use Rattle.std.specs.Prelude.{Option, codes, if◌then◌else◌}
+use Rattle.std.proofs.Common.{◌≡◌, ℕ, List, [], ◌∷◌, ◌++◌, true, false, Some, None, refl}
+use Rattle.std.specs.Prelude.{map, codes, if◌then◌else◌}
 use Rattle.std.specs.Str.{bytes_eq}
 use Rattle.gv_base.specs.declared.tree.Found.{Found}
 use Rattle.gv_base.specs.declared.tree.Found.TheVariants.{File, Dir, Absent}
-use Rattle.gvis.specs.declared.facts.Status.TheVariants.{Stable, Dev, Exp}
+use Rattle.gv_facts.specs.declared.kinds.Status.TheVariants.{Dev, Exp}
 use Rattle.gvis.specs.declared.faults.LoadFault.TheVariants.{NotARepository, NotBuilt}
 use Rattle.gvis.specs.Desc.{counted_lines}
-use Rattle.gvis.specs.EntryNames.{entry_name}
 use Rattle.gvis.specs.Lines.{line_words}
 use Rattle.gvis.specs.Look.{Look}
 use Rattle.gvis.specs.Paths.{is_relative, resolved}
-use Rattle.gvis.specs.ProfileFiles.{is_good_eapi, rules_in}
+use Rattle.gvis.specs.Pf.{is_pf}
+use Rattle.gvis.specs.ProfileFiles.{is_good_eapi, masking, rules_in}
 use Rattle.gvis.specs.Reading.{layout, most_bytes, first_refusal}
 
 words : line_words (codes " a\tb#c #d e") ≡ codes "a" ∷ codes "b#c" ∷ []
@@ -28,15 +28,15 @@ lines : counted_lines (codes "a b stabl" ++ 10 ∷ codes "a b dev # x" ++ 10 ∷
     ≡ record { line = 2; arch = codes "a"; path = codes "b"; status = Dev } ∷ record { line = 5; arch = codes "a"; path = codes "b/"; status = Exp } ∷ []
 lines = refl
 
-names : (entry_name (codes "p_1-10") ≡ Some (record { name = codes "p_1"; version = 10 })) × (entry_name (codes "p-01") ≡ None) × (entry_name (codes "p-q-1") ≡ None)
-    × (entry_name (codes "p-0") ≡ Some (record { name = codes "p"; version = 0 })) × (entry_name (codes "Manifest.gz") ≡ None) × (entry_name (codes "p-1234567890123456789") ≡ None)
-names = (refl, refl, refl, refl, refl, refl)
+names : map is_pf (codes "p_1-10" ∷ codes "p-01" ∷ codes "p-q-1" ∷ codes "p-1.2_rc-r3" ∷ codes "p" ∷ codes "p-1-2" ∷ codes "Manifest.gz" ∷ codes "p-1234567890123456789" ∷ codes "p 1-1" ∷ [])
+    ≡ true ∷ true ∷ true ∷ true ∷ false ∷ false ∷ false ∷ false ∷ false ∷ []
+names = refl
 
 -- the first word of the whole file decides
 eapis : (is_good_eapi (codes "# 9" ++ 10 ∷ codes "8 9") ≡ true) × (is_good_eapi [] ≡ true) × (is_good_eapi (codes "08") ≡ false) × (is_good_eapi (codes "9") ≡ false)
 eapis = (refl, refl, refl, refl)
 
-rules : rules_in (codes "a" ++ 10 ∷ codes "b c" ++ 10 ∷ codes "-a" ++ 10 ∷ codes "-") ≡ record { flag = codes "a"; on = true } ∷ record { flag = codes "a"; on = false } ∷ []
+rules : rules_in (codes "a" ++ 10 ∷ codes "b c" ++ 10 ∷ codes "-a" ++ 10 ∷ codes "-") ≡ masking (codes "a") true ∷ masking (codes "a") false ∷ []
 rules = refl
 
 -- ---- small trees: one profile, one more path, and the names below the cache folder of `app`
@@ -73,6 +73,11 @@ mask_folder : first_refusal (tree (codes "profiles/base/use.mask") Dir []) ≡ S
 unfolding first_refusal layout most_bytes
 mask_folder = refl
 
-bad_name : first_refusal (tree (codes "profiles/base/use.mask") (File []) (codes "a-1" ∷ codes "a-1.2" ∷ [])) ≡ Some (NotBuilt (codes "metadata/md5-cache/app/a-1.2"))
+-- a name that is no PF is passed over, whatever stands there, and the first package that asks for a USE flag is refused
+abbrev asking : List ℕ → Found
+asking p = if bytes_eq p (codes "metadata/md5-cache/app/b-1.2") then File (codes "EAPI=8\nSLOT=0\nRDEPEND=x/y[a]\n") else base (codes "metadata/md5-cache/app/a-1") (File []) p
+
+first_asking : first_refusal (record { found = asking; names = in_app (codes "a" ∷ codes "a-1" ∷ codes "b-1.2" ∷ []) })
+    ≡ Some (NotBuilt (codes "metadata/md5-cache/app/b-1.2"))
 unfolding first_refusal layout most_bytes
-bad_name = refl
+first_asking = refl

@@ -1,11 +1,10 @@
 -- What one reading tells.
-use Rattle.std.proofs.Common.{◌≡◌, ℕ, ◌<◌, ◌≤◌, List, Bool, true, false, cond, Some, None, length, refl, sym, ap, subst, ◌∙◌, arith}
+use Rattle.std.proofs.Common.{◌≡◌, ℕ, List, true, false, cond, Some, None, length, refl, sym, ap, subst, ◌∙◌, arith}
 use Rattle.std.specs.Prelude.{Option, IfSome, nat_lt}
 use Rattle.std.specs.declared.cmp.Ordering.{Ordering}
 use Rattle.std.specs.declared.cmp.Ordering.TheVariants.{Less, Equal, Greater}
 use Rattle.std.specs.Ordering.{eq_by_cmp, is_eq}
 use Rattle.std.specs.Cmp.Lexicographic.{nat_list_cmp_total}
-use Rattle.std.specs.Cmp.{tied_itself}
 use Rattle.std.specs.FinMap.{get, insert, get-insert, empty, get-empty}
 use Rattle.std.proofs.lemmas.Bool.{lt-ltb}
 use Rattle.std.proofs.lemmas.Option.{same_Some}
@@ -15,13 +14,11 @@ use Rattle.gv_base.specs.Outside.{found_at, found_as, IsLarge, HasAtMost}
 use Rattle.gv_base.specs.Listing.{is_folder}
 use Rattle.gv_base.specs.declared.tree.Found.{Found}
 use Rattle.gv_base.specs.declared.tree.Found.TheVariants.{File, Dir, Absent}
-use Rattle.gvis.specs.declared.faults.LoadFault.{LoadFault}
-use Rattle.gvis.specs.declared.faults.LoadFault.TheVariants.{Tree, NotARepository, NotBuilt, NoMemory}
+use Rattle.gvis.specs.declared.faults.LoadFault.TheVariants.{NotBuilt}
 use Rattle.gvis.specs.Agreement.{Agrees, Knows}
 use Rattle.gvis.specs.Known.{Known}
 use Rattle.gvis.specs.Look.{Look, IsTold, look_in}
-use Rattle.gvis.specs.LoadCauses.{Cause, Passes}
-use Rattle.gvis.specs.Reading.{Refusal, refused, read, need, plain, absent, too_large, most_bytes, file_bytes}
+use Rattle.gvis.specs.Reading.{too_large, most_bytes}
 
 -- ---- a path of the tree
 pub told_found : (told : Option FileMap) (path : List ℕ) (found : Found) → IfSome told (λ m. found ≡ found_at m path) → IsTold told → found ≡ (look_in told).found path

@@ -10,10 +10,11 @@ use Rattle.std.specs.Ordering.{eq_by_cmp, is_eq, nat_cmp, on, then_cmp}
 use Rattle.std.proofs.lemmas.Bool.{and_parts}
 use Rattle.std.proofs.lemmas.Map.Text.{is_eq-slice_cmp}
 use Rattle.gv_base.specs.Order.{byte_cmp}
-use Rattle.gvis.specs.declared.facts.Class.{Class}
-use Rattle.gvis.specs.declared.facts.Class.TheVariants as classes
-use Rattle.gvis.specs.declared.facts.Level.{Level}
-use Rattle.gvis.specs.declared.facts.Level.TheVariants as levels
+use Rattle.gv_version.specs.VersionOrder.{compare}
+use Rattle.gv_facts.specs.declared.kinds.Class.{Class}
+use Rattle.gv_facts.specs.declared.kinds.Class.TheVariants as classes
+use Rattle.gv_facts.specs.declared.kinds.Level.{Level}
+use Rattle.gv_facts.specs.declared.kinds.Level.TheVariants as levels
 use Rattle.gvis.specs.declared.report.ContextName.{ContextName}
 use Rattle.gvis.specs.declared.report.Keyword.{Keyword}
 use Rattle.gvis.specs.declared.report.Keyword.TheVariants as keywords
@@ -56,11 +57,12 @@ keyword_back keywords.NonsolvableDepsInDev = refl
 keyword_back keywords.NonsolvableDepsInExp = refl
 
 class_of : ℕ → Class
-class_of n = if nat_eq n 2 then classes.Depend else if nat_eq n 3 then classes.Bdepend else
+class_of n = if nat_eq n 1 then classes.Required else if nat_eq n 2 then classes.Depend else if nat_eq n 3 then classes.Bdepend else
     if nat_eq n 4 then classes.Rdepend else if nat_eq n 5 then classes.Pdepend else classes.Idepend
 
 class_back : (c : Class) → class_of (class_number c) ≡ c
 unfolding class_of
+class_back classes.Required = refl
 class_back classes.Depend = refl
 class_back classes.Bdepend = refl
 class_back classes.Rdepend = refl
@@ -85,7 +87,7 @@ same_level : (a b : Level) → level_number a ≡ level_number b → a ≡ b
 same_level a b e = sym (level_back a) ∙ ap level_of e ∙ level_back b
 
 -- Records of equal parts.
-subject_parts : (c d n m : List ℕ) (v w : ℕ) (p q : List ℕ) → c ≡ d → n ≡ m → v ≡ w → p ≡ q
+subject_parts : (c d n m v w p q : List ℕ) → c ≡ d → n ≡ m → v ≡ w → p ≡ q
     → ◌≡◌ {A = Subject} (record { category = c; name = n; version = v; pf = p }) (record { category = d; name = m; version = w; pf = q })
 subject_parts c d n m v w p q e f g h = cc
 
@@ -97,13 +99,14 @@ report_parts : (s t : Subject) (k l : Keyword) (c d : Class) (x y : ContextName)
     → ◌≡◌ {A = Report} (record { subject = s; keyword = k; class = c; context = x; witness = w; detail = a }) (record { subject = t; keyword = l; class = d; context = y; witness = v; detail = b })
 report_parts s t k l c d x y w v a b e f g h i j = cc
 
-subject_exact : (s t : Subject) → is_eq (subject_cmp s t) ≡ true → s ≡ t
-subject_exact s t h =
-    let a = both_tied (on (λ (x : Subject). x.category) byte_cmp) (then_cmp (on (λ (x : Subject). x.name) byte_cmp) (then_cmp (on (λ (x : Subject). x.version) nat_cmp) (on (λ (x : Subject). x.pf) byte_cmp))) s t h in
-    let b = both_tied (on (λ (x : Subject). x.name) byte_cmp) (then_cmp (on (λ (x : Subject). x.version) nat_cmp) (on (λ (x : Subject). x.pf) byte_cmp)) s t a.1 in
-    let d = both_tied (on (λ (x : Subject). x.version) nat_cmp) (on (λ (x : Subject). x.pf) byte_cmp) s t b.1 in
+-- the order of versions has ties, so it says nothing here: the texts of the versions are compared last
+subject_exact : (s t : Subject) → is_eq (subject_cmp s t) ≡ true → s.version ≡ t.version → s ≡ t
+subject_exact s t h version =
+    let a = both_tied (on (λ (x : Subject). x.category) byte_cmp) (then_cmp (on (λ (x : Subject). x.name) byte_cmp) (then_cmp (on (λ (x : Subject). x.version) compare) (on (λ (x : Subject). x.pf) byte_cmp))) s t h in
+    let b = both_tied (on (λ (x : Subject). x.name) byte_cmp) (then_cmp (on (λ (x : Subject). x.version) compare) (on (λ (x : Subject). x.pf) byte_cmp)) s t a.1 in
+    let d = both_tied (on (λ (x : Subject). x.version) compare) (on (λ (x : Subject). x.pf) byte_cmp) s t b.1 in
     subject_parts s.category t.category s.name t.name s.version t.version s.pf t.pf
-    (tied_texts s.category t.category a.0) (tied_texts s.name t.name b.0) (tied_numbers s.version t.version d.0) (tied_texts s.pf t.pf d.1)
+    (tied_texts s.category t.category a.0) (tied_texts s.name t.name b.0) version (tied_texts s.pf t.pf d.1)
 
 context_exact : (c d : ContextName) → c.line ≡ d.line → is_eq (context_cmp c d) ≡ true → c ≡ d
 context_exact c d line h =
@@ -119,11 +122,13 @@ report_exact r s h =
     let b = both_tied (on (λ (x : Report). keyword_number x.keyword) nat_cmp) (then_cmp (on (λ (x : Report). class_number x.class) nat_cmp) (then_cmp (on (λ (x : Report). x.context.line) nat_cmp) answer_cmp)) r s a.1 in
     let d = both_tied (on (λ (x : Report). class_number x.class) nat_cmp) (then_cmp (on (λ (x : Report). x.context.line) nat_cmp) answer_cmp) r s b.1 in
     let e = both_tied (on (λ (x : Report). x.context.line) nat_cmp) answer_cmp r s d.1 in
-    let f = both_tied (on (λ (x : Report). x.detail) byte_cmp) (then_cmp (on (λ (x : Report). x.witness) byte_cmp) (on (λ (x : Report). x.context) context_cmp)) r s e.1 in
-    let g = both_tied (on (λ (x : Report). x.witness) byte_cmp) (on (λ (x : Report). x.context) context_cmp) r s f.1 in
+    let text = on (λ (x : Report). x.subject.version) byte_cmp in
+    let f = both_tied (on (λ (x : Report). x.detail) byte_cmp) (then_cmp (on (λ (x : Report). x.witness) byte_cmp) (then_cmp (on (λ (x : Report). x.context) context_cmp) text)) r s e.1 in
+    let g = both_tied (on (λ (x : Report). x.witness) byte_cmp) (then_cmp (on (λ (x : Report). x.context) context_cmp) text) r s f.1 in
+    let k = both_tied (on (λ (x : Report). x.context) context_cmp) text r s g.1 in
     report_parts r.subject s.subject r.keyword s.keyword r.class s.class r.context s.context r.witness s.witness r.detail s.detail
-    (subject_exact r.subject s.subject a.0)
+    (subject_exact r.subject s.subject a.0 (tied_texts r.subject.version s.subject.version k.1))
     (same_keyword r.keyword s.keyword (tied_numbers (keyword_number r.keyword) (keyword_number s.keyword) b.0))
     (same_class r.class s.class (tied_numbers (class_number r.class) (class_number s.class) d.0))
-    (context_exact r.context s.context (tied_numbers r.context.line s.context.line e.0) g.1)
+    (context_exact r.context s.context (tied_numbers r.context.line s.context.line e.0) k.0)
     (tied_texts r.witness s.witness g.0) (tied_texts r.detail s.detail f.0)

@@ -1,11 +1,11 @@
 -- From reading and judging to what a scan says.
-use Rattle.std.proofs.Common.{◌≡◌, ℕ, List, Some, None, refl, sym, ap, ◌∙◌}
-use Rattle.std.specs.Prelude.{Option, IfSome, Ok, Err}
+use Rattle.std.proofs.Common.{◌≡◌, ℕ, List, Some, None, sym, ap, ◌∙◌}
+use Rattle.std.specs.Prelude.{Option, IfSome, Ok}
 use Rattle.gv_base.specs.FileMap.{FileMap}
-use Rattle.gvis.specs.declared.facts.Repo.{Repo}
+use Rattle.gvis.specs.declared.repo.Repo.{Repo}
 use Rattle.gvis.specs.declared.faults.LoadFault.{LoadFault}
 use Rattle.gvis.specs.declared.faults.LoadFault.TheVariants as faults
-use Rattle.gvis.specs.Look.{Look, look_of}
+use Rattle.gvis.specs.Look.{look_of}
 use Rattle.gvis.specs.Reading.{first_refusal}
 use Rattle.gvis.specs.RepoReports.{scan_text, first_wide}
 use Rattle.gvis.specs.Repository.{repo_of}

@@ -1,72 +1,41 @@
 -- What the trial of a query's bits says of all assignments.
-use Rattle.std.proofs.Common.{◌≡◌, ℕ, Bool, true, false, cond, ◌&&◌, ◌||◌, not, if◌then◌else◌, List, [], ◌∷◌, ◌++◌, length, map, filter, refl, sym, ap, subst, ◌∙◌, Option, Some, None}
-use Rattle.std.proofs.lemmas.Bool.{false≢true}
+use Rattle.std.proofs.Common.{◌≡◌, ℕ, Bool, true, false, cond, ◌||◌, not, if◌then◌else◌, List, [], ◌∷◌, ◌++◌, length, map, filter, refl, sym, ap, ◌∙◌, Option, Some, None}
+use Rattle.std.proofs.lemmas.Bool.{false≢true, and_from, and_parts}
 use Rattle.std.proofs.lemmas.Cmp.{nat_list_eq_equiv}
 use Rattle.std.proofs.lemmas.List.{length-map}
-use Rattle.std.proofs.lemmas.List.Folds.{list_any-append}
 use Rattle.std.specs.Cmp.Lexicographic.{same_text}
 use Rattle.std.specs.Option.{MatchOption}
 use Rattle.std.specs.Str.{bytes_eq}
-use Rattle.gv_atom.specs.declared.atom.Atom.{Atom}
 use Rattle.gv_base.specs.Order.{has_text, in_order}
 use Rattle.gv_base.proofs.TextOrder.{in_order-has}
-use Rattle.gv_expr.specs.Dep.{Dep, Deps, leaf, when, end, more, deps}
-use Rattle.gv_expr.specs.Mentioned.{dep_mentions}
-use Rattle.gvis.specs.declared.facts.FlagState.{FlagState}
-use Rattle.gvis.specs.declared.facts.FlagState.TheVariants.{Absent, Off, Free}
-use Rattle.gvis.specs.Allowed.{Parent, parent_state, agrees, is_free, assignment, class_holds, is_failing, Allowed, Failing}
-use Rattle.gvis.specs.AtomMet.{atom_met}
-use Rattle.gvis.specs.Holds.{is_met, deps_hold}
-use Rattle.gvis.specs.Least.{least}
-use Rattle.gvis.specs.LeastFailing.{class_flags, IsLeastFailing, NoneFailing}
-use Rattle.gvis.proofs.LeastLaw.{Said, least_is}
-
--- Flags in lists.
-or_here : (a b : Bool) → a ≡ true → (a || b) ≡ true
-or_here true b h = refl
-or_here false b h = absurd (false≢true h)
-
-or_there : (a b : Bool) → b ≡ true → (a || b) ≡ true
-or_there true b h = refl
-or_there false b h = h
-
-has_front : (xs ys : List (List ℕ)) (flag : List ℕ) → has_text xs flag ≡ true → has_text (xs ++ ys) flag ≡ true
-has_front xs ys flag h = list_any-append (bytes_eq flag) xs ys ∙ or_here (has_text xs flag) (has_text ys flag) h
-
-has_behind : (xs ys : List (List ℕ)) (flag : List ℕ) → has_text ys flag ≡ true → has_text (xs ++ ys) flag ≡ true
-has_behind xs ys flag h = list_any-append (bytes_eq flag) xs ys ∙ or_there (has_text xs flag) (has_text ys flag) h
-
--- An expression holds alike under assignments that agree at the flags that it mentions.
-tree_alike : (negated a b x y : Bool) → a ≡ b → x ≡ y → (not (is_met negated a) || x) ≡ (not (is_met negated b) || y)
-tree_alike negated a b x y e k = ap (λ z. not (is_met negated z) || x) e ∙ ap (λ z. not (is_met negated b) || z) k
-
-alike : (ts : Deps) (met : Atom → Bool) (on other : List ℕ → Bool) → ((flag : List ℕ) → has_text (dep_mentions ts) flag ≡ true → on flag ≡ other flag)
-    → deps_hold ts met on ≡ deps_hold ts met other
-alike end met on other same = refl
-alike (more (leaf atom) rest) met on other same = ap (λ b. met atom && b) (alike rest met on other same)
-alike (more (when flag negated items) rest) met on other same =
-    let here = same flag (or_here (bytes_eq flag flag) (has_text (dep_mentions items ++ dep_mentions rest) flag) (nat_list_eq_equiv.refl flag)) in
-    let inside = alike items met on other (λ f h. same f (or_there (bytes_eq f flag) (has_text (dep_mentions items ++ dep_mentions rest) f) (has_front (dep_mentions items) (dep_mentions rest) f h))) in
-    let behind = alike rest met on other (λ f h. same f (or_there (bytes_eq f flag) (has_text (dep_mentions items ++ dep_mentions rest) f) (has_behind (dep_mentions items) (dep_mentions rest) f h))) in
-    let tree = tree_alike negated (on flag) (other flag) (deps_hold items met on) (deps_hold items met other) here inside in
-    ap (λ b. b && deps_hold rest met on) tree ∙ ap (λ b. (not (is_met negated (other flag)) || deps_hold items met other) && b) behind
+use Rattle.gv_expr.specs.Dep.{Dep, deps}
+use Rattle.gv_expr.specs.Mentioned.{dep_mentions, req_mentions}
+use Rattle.gv_expr.specs.Req.{Req, reqs}
+use Rattle.gv_facts.specs.declared.kinds.FlagState.{FlagState}
+use Rattle.gv_facts.specs.declared.kinds.FlagState.TheVariants.{Absent, Off, On, Free}
+use Rattle.gv_entry.specs.Allowed.{Allowed, Failing, Parent, agrees, assignment, bit_or, class_holds, is_allowed, is_failing, is_forced, is_free, parent_state, query_flags, required_holds}
+use Rattle.gv_entry.specs.Holds.{empty_holds}
+use Rattle.gv_entry.specs.Least.{HasNone, IsLeast, least}
+use Rattle.gvis.specs.LeastFailing.{IsLeastFailing, NoneFailing}
+use Rattle.gvis.specs.Queries.{class_flags}
+use Rattle.gvis.proofs.Alike.{Agree, agree_behind, agree_front, deps_alike, or_here, reqs_alike}
 
 -- The assignment of an assignment's bits.
 module _ (on : List ℕ → Bool) (flag : List ℕ) where
-  at_flags : (fs : List (List ℕ)) → has_text fs flag ≡ true → assignment fs (map on fs) flag ≡ on flag
-  at_flags [] h = absurd (false≢true h)
-  at_flags (f ∷ fs) h = by (bytes_eq f flag) refl (at_flags fs)
+  at_flags : (fs : List (List ℕ)) (other : Bool) → has_text fs flag ≡ true → bit_or fs (map on fs) flag other ≡ on flag
+  at_flags [] other h = absurd (false≢true h)
+  at_flags (f ∷ fs) other h = by (bytes_eq f flag) refl (at_flags fs other)
     where
-      by : (b : Bool) → bytes_eq f flag ≡ b → (has_text fs flag ≡ true → assignment fs (map on fs) flag ≡ on flag) → (if b then on f else assignment fs (map on fs) flag) ≡ on flag
+      by : (b : Bool) → bytes_eq f flag ≡ b → (has_text fs flag ≡ true → bit_or fs (map on fs) flag other ≡ on flag) → (if b then on f else bit_or fs (map on fs) flag other) ≡ on flag
       by true e later = ap on (same_text f flag (sym e))
       by false e later = later (ap (λ b. b || has_text fs flag) (sym (nat_list_eq_equiv.symm flag f ∙ e)) ∙ h)
 
-not_among : (fs : List (List ℕ)) (bits : List Bool) (flag : List ℕ) → has_text fs flag ≡ false → assignment fs bits flag ≡ false
-not_among [] bits flag h = refl
-not_among (f ∷ fs) [] flag h = refl
-not_among (f ∷ fs) (b ∷ bs) flag h = by (bytes_eq f flag) refl (not_among fs bs flag)
+not_among : (fs : List (List ℕ)) (bits : List Bool) (flag : List ℕ) (other : Bool) → has_text fs flag ≡ false → bit_or fs bits flag other ≡ other
+not_among [] bits flag other h = refl
+not_among (f ∷ fs) [] flag other h = refl
+not_among (f ∷ fs) (b ∷ bs) flag other h = by (bytes_eq f flag) refl (not_among fs bs flag other)
   where
-    by : (same : Bool) → bytes_eq f flag ≡ same → (has_text fs flag ≡ false → assignment fs bs flag ≡ false) → (if same then b else assignment fs bs flag) ≡ false
+    by : (same : Bool) → bytes_eq f flag ≡ same → (has_text fs flag ≡ false → bit_or fs bs flag other ≡ other) → (if same then b else bit_or fs bs flag other) ≡ other
     by true e later = absurd (false≢true (sym h ∙ or_here (bytes_eq flag f) (has_text fs flag) (nat_list_eq_equiv.symm flag f ∙ e)))
     by false e later = later (ap (λ b. b || has_text fs flag) (sym (nat_list_eq_equiv.symm flag f ∙ e)) ∙ h)
 
@@ -104,67 +73,70 @@ module _ (p : List ℕ → Bool) (flag : List ℕ) where
               apart false m = refl
 
 -- States and bits.
-free_agrees : (s : FlagState) (bit : Bool) → is_free s ≡ true → agrees s bit ≡ true
-free_agrees Free bit h = refl
-free_agrees Off bit h = absurd (false≢true h)
-free_agrees Absent bit h = absurd (false≢true h)
-
-off_agrees : (s : FlagState) → agrees s false ≡ true
-off_agrees Free = refl
-off_agrees Off = refl
-off_agrees Absent = refl
-
 not_true : (b : Bool) → not b ≡ true → b ≡ false
 not_true true h = absurd (false≢true h)
 not_true false h = refl
 
-off_unless_free : (s : FlagState) (bit : Bool) → is_free s ≡ false → agrees s bit ≡ true → bit ≡ false
-off_unless_free Free bit h a = absurd (false≢true (sym h))
-off_unless_free Off bit h a = not_true bit a
-off_unless_free Absent bit h a = not_true bit a
+forced_unless_free : (s : FlagState) (bit : Bool) → is_free s ≡ false → agrees s bit ≡ true → bit ≡ is_forced s
+forced_unless_free Free bit h a = absurd (false≢true (sym h))
+forced_unless_free On bit h a = a
+forced_unless_free Off bit h a = not_true bit a
+forced_unless_free Absent bit h a = not_true bit a
 
-module _ (c : Parent) (class : List Dep) where
-  -- an allowed assignment is that of its bits, at the flags that the class mentions
-  of_bits : (on : List ℕ → Bool) → Allowed c on → (flag : List ℕ) → has_text (dep_mentions (deps class)) flag ≡ true
-      → on flag ≡ assignment (class_flags c class) (map on (class_flags c class)) flag
-  of_bits on allowed flag mentioned = by (is_free (parent_state c flag)) refl
+-- the laws of the layer below: bits that pass the test are allowed, and what is found is the least
+abbrev pub AllowedLaw : Type 0
+AllowedLaw = (c : Parent) (required : List Req) (mentions : List (List ℕ)) (bits : List Bool)
+    → is_allowed c required (query_flags c mentions) bits ≡ true → Allowed c required (assignment c (query_flags c mentions) bits)
+
+abbrev pub LeastLaw : Type 0
+LeastLaw = (test : List Bool → Bool) (n : ℕ) → MatchOption (least test n) (HasNone test n) (IsLeast test n)
+
+module _ (c : Parent) (required : List Req) (class : List Dep) where
+  -- all that the query mentions
+  abbrev mentions : List (List ℕ)
+  mentions = req_mentions (reqs required) ++ dep_mentions (deps class)
+
+  abbrev flags : List (List ℕ)
+  flags = class_flags c required class
+
+  -- an assignment that agrees with the states is that of its bits, at the flags that are mentioned
+  of_bits : (on : List ℕ → Bool) → ((flag : List ℕ) → agrees (parent_state c flag) (on flag) ≡ true) → Agree on (assignment c flags (map on flags)) mentions
+  of_bits on agreeing flag mentioned = by (is_free (parent_state c flag)) refl
     where
-      by : (b : Bool) → is_free (parent_state c flag) ≡ b → on flag ≡ assignment (class_flags c class) (map on (class_flags c class)) flag
-      by true e = sym (at_flags on flag (class_flags c class)
-          (filtered_in (λ f. is_free (parent_state c f)) flag (in_order (dep_mentions (deps class))) e (sym (in_order-has (dep_mentions (deps class)) flag) ∙ mentioned)))
-      by false e = off_unless_free (parent_state c flag) (on flag) e (allowed.agreeing flag)
-          ∙ sym (not_among (class_flags c class) (map on (class_flags c class)) flag (filtered_out (λ f. is_free (parent_state c f)) flag (in_order (dep_mentions (deps class))) e))
+      by : (b : Bool) → is_free (parent_state c flag) ≡ b → on flag ≡ assignment c flags (map on flags) flag
+      by true e = sym (at_flags on flag flags (is_forced (parent_state c flag)) (filtered_in (λ f. is_free (parent_state c f)) flag (in_order mentions) e (sym (in_order-has mentions flag) ∙ mentioned)))
+      by false e = forced_unless_free (parent_state c flag) (on flag) e (agreeing flag)
+          ∙ sym (not_among flags (map on flags) flag (is_forced (parent_state c flag)) (filtered_out (λ f. is_free (parent_state c f)) flag (in_order mentions) e))
 
   -- what fails among all assignments fails among the bits
-  pub complete : (on : List ℕ → Bool) → Failing c class on → is_failing c class (class_flags c class) (map on (class_flags c class)) ≡ true
+  pub complete : (on : List ℕ → Bool) → Failing c required class on → is_failing c required class flags (map on flags) ≡ true
   complete on failing =
-      ap not (sym (alike (deps class) (atom_met c.among c.profile c.level) on (assignment (class_flags c class) (map on (class_flags c class))) (of_bits on failing.allowed)) ∙ failing.fails)
+      let bits = assignment c flags (map on flags) in
+      let empty = empty_holds c.pkg.eapi in
+      let same = of_bits on failing.allowed.agreeing in
+      let holds : required_holds c required bits ≡ true =
+      sym (reqs_alike on bits empty (reqs required) (agree_front on bits (req_mentions (reqs required)) (dep_mentions (deps class)) same)).0 ∙ failing.allowed.required_use in
+      let fails : class_holds c class bits ≡ false =
+      sym (deps_alike on bits c.among c.profile c.level empty (deps class) (agree_behind on bits (req_mentions (reqs required)) (dep_mentions (deps class)) same)).0 ∙ failing.fails in
+      and_from (required_holds c required bits) (not (class_holds c class bits)) holds (ap not fails)
 
   -- and the other way round
-  pub sound : (bits : List Bool) → is_failing c class (class_flags c class) bits ≡ true → Failing c class (assignment (class_flags c class) bits)
-  sound bits h = record {
-    allowed = record { agreeing = agreeing };
-    fails = not_true (class_holds c class (assignment (class_flags c class) bits)) h;
-  }
-    where
-      agreeing : (flag : List ℕ) → agrees (parent_state c flag) (assignment (class_flags c class) bits flag) ≡ true
-      agreeing flag = by (is_free (parent_state c flag)) refl
-        where
-          by : (b : Bool) → is_free (parent_state c flag) ≡ b → agrees (parent_state c flag) (assignment (class_flags c class) bits flag) ≡ true
-          by true e = free_agrees (parent_state c flag) (assignment (class_flags c class) bits flag) e
-          by false e = ap (agrees (parent_state c flag)) (not_among (class_flags c class) bits flag (filtered_out (λ f. is_free (parent_state c f)) flag (in_order (dep_mentions (deps class))) e))
-              ∙ off_agrees (parent_state c flag)
+  pub sound : AllowedLaw → (bits : List Bool) → is_failing c required class flags bits ≡ true → Failing c required class (assignment c flags bits)
+  sound allowed bits h =
+      let both = and_parts (required_holds c required (assignment c flags bits)) (not (class_holds c class (assignment c flags bits))) h in
+      record {
+        allowed = allowed c required mentions bits both.0;
+        fails = not_true (class_holds c class (assignment c flags bits)) both.1;
+      }
 
   -- what the trial finds is the least failing assignment, and it finds nothing only where none is failing
-  pub least_of_all : MatchOption (least (is_failing c class (class_flags c class)) (length (class_flags c class))) (NoneFailing c class) (IsLeastFailing c class)
-  least_of_all = by (least (is_failing c class (class_flags c class)) (length (class_flags c class))) (least_is (is_failing c class (class_flags c class)) (length (class_flags c class)))
+  pub least_of_all : AllowedLaw → LeastLaw → MatchOption (least (is_failing c required class flags) (length flags)) (NoneFailing c required class) (IsLeastFailing c required class)
+  least_of_all allowed law = by (least (is_failing c required class flags) (length flags)) (law (is_failing c required class flags) (length flags))
     where
-      by : (found : Option (List Bool)) → Said (is_failing c class (class_flags c class)) (length (class_flags c class)) [] found → MatchOption found (NoneFailing c class) (IsLeastFailing c class)
-      by None none = λ on failing. none (map on (class_flags c class)) (length-map (class_flags c class) on) (complete on failing)
-      by (Some whole) said =
-          let same : said.0 ≡ whole = sym said.1 in
-          let P : List Bool → Type 0 = λ bits. IsLeastFailing c class bits in
-          subst P same (record {
-            failing = sound said.0 said.2.has;
-            lesser = λ on failing differs. said.2.lesser (map on (class_flags c class)) (length-map (class_flags c class) on) (complete on failing) differs;
-          })
+      by : (found : Option (List Bool)) → MatchOption found (HasNone (is_failing c required class flags) (length flags)) (IsLeast (is_failing c required class flags) (length flags))
+          → MatchOption found (NoneFailing c required class) (IsLeastFailing c required class)
+      by None none = λ on failing. none (map on flags) (length-map flags on) (complete on failing)
+      by (Some bits) least_bits = record {
+        failing = sound allowed bits least_bits.has;
+        lesser = λ on failing differs. least_bits.lesser (map on flags) (length-map flags on) (complete on failing) differs;
+      }

@@ -1,45 +1,41 @@
 -- Small repositories for the examples.
-use Rattle.std.specs.Prelude.{ℕ, true, false, List, [], ◌∷◌, ◌++◌, codes}
-use Rattle.gvis.specs.declared.facts.Member.{Member}
-use Rattle.gvis.specs.declared.facts.Profile.{Profile}
-use Rattle.gvis.specs.declared.facts.Repo.{Repo}
-use Rattle.gvis.specs.declared.facts.Rule.{Rule}
-use Rattle.gvis.specs.declared.facts.Status.{Status}
-use Rattle.gvis.specs.declared.facts.Status.TheVariants.{Stable}
-use Rattle.gvis.specs.declared.entry.EntryRead.{EntryRead}
-use Rattle.gvis.specs.declared.entry.EntryRead.TheVariants.{Package}
-use Rattle.gvis.specs.EntryRead.{entry_of}
+use Rattle.std.specs.Prelude.{ℕ, true, false, List, ◌++◌, option_to_list, codes}
+use Rattle.gvis.specs.declared.repo.Member.{Member}
+use Rattle.gv_facts.specs.declared.profile.Profile.{Profile}
+use Rattle.gvis.specs.declared.repo.Repo.{Repo}
+use Rattle.gv_facts.specs.declared.rules.Rule.{Rule}
+use Rattle.gv_facts.specs.declared.kinds.Status.{Status}
+use Rattle.gv_facts.specs.declared.kinds.Status.TheVariants.{Stable}
+use Rattle.gvis.specs.ProfileFiles.{masking}
+use Rattle.gvis.specs.Repository.{package_in, repo_with, with_rules}
+use Rattle.gv_entry.specs.EntryRead.{entry_of}
 
 abbrev pub profile_of : ℕ → List ℕ → List ℕ → Status → List Rule → Profile
-profile_of line arch path status rules = record { line = line; arch = arch; path = path; status = status; rules = rules }
+profile_of line arch path status rules = with_rules (record { line = line; arch = arch; path = path; status = status }) rules
 
 -- the profile `amd64 base stable` with these rules
 abbrev pub base_with : List Rule → Profile
 base_with rules = profile_of 1 (codes "amd64") (codes "base") Stable rules
 
 abbrev pub mask : List ℕ → Rule
-mask flag = record { flag = flag; on = true }
+mask flag = masking flag true
 
 abbrev pub unmask : List ℕ → Rule
-unmask flag = record { flag = flag; on = false }
+unmask flag = masking flag false
 
-abbrev pub members_in : EntryRead → List Member
-members_in (Package member) = member ∷ []
-members_in read = []
-
--- a package `CATEGORY/NAME-VERSION` with this entry
-abbrev pub of_entry : (category name : List ℕ) → (version : ℕ) → (pf text : List ℕ) → List Member
-of_entry category name version pf text = members_in (entry_of category name version pf text)
+-- a package `CATEGORY/PF` with this entry
+abbrev pub of_entry : (category pf text : List ℕ) → List Member
+of_entry category pf text = option_to_list (package_in (entry_of category pf text))
 
 -- an entry with the usual keys, and with others
 abbrev pub usual : List ℕ → List ℕ
 usual more = codes "EAPI=8\nSLOT=0\nKEYWORDS=amd64\n" ++ more
 
 abbrev pub app : List ℕ → List Member
-app text = of_entry (codes "app") (codes "p") 1 (codes "p-1") text
+app text = of_entry (codes "app") (codes "p-1") text
 
 abbrev pub other : List ℕ → List Member
-other text = of_entry (codes "x") (codes "y") 1 (codes "y-1") text
+other text = of_entry (codes "x") (codes "y-1") text
 
 abbrev pub repo_of : List Profile → List Member → Repo
-repo_of profiles members = record { members = members; profiles = profiles }
+repo_of profiles members = repo_with members profiles

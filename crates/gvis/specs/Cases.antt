@@ -1,15 +1,17 @@
 -- The packages of a repository in the contexts in which they are judged.
-use Rattle.std.specs.Prelude.{List, map, Option, option_map, flat_map, filter_map}
-use Rattle.gvis.specs.declared.facts.Level.{Level}
-use Rattle.gvis.specs.declared.facts.Member.{Member}
-use Rattle.gvis.specs.declared.facts.Pkg.{Pkg}
-use Rattle.gvis.specs.declared.facts.Profile.{Profile}
-use Rattle.gvis.specs.declared.facts.Repo.{Repo}
-use Rattle.gvis.specs.Visible.{judged}
-use Rattle.gvis.specs.Allowed.{Parent}
+use Rattle.std.specs.Prelude.{Bool, true, false, if◌then◌else◌, List, [], ◌∷◌, Option, None, Some, flat_map, filter_map}
+use Rattle.gv_facts.specs.declared.kinds.Level.{Level}
+use Rattle.gv_facts.specs.declared.kinds.Level.TheVariants.{Stable, Testing}
+use Rattle.gv_facts.specs.declared.pkg.Pkg.{Pkg}
+use Rattle.gv_facts.specs.declared.profile.Profile.{Profile}
+use Rattle.gv_facts.specs.Visible.{judged}
+use Rattle.gv_entry.specs.Allowed.{Parent}
+use Rattle.gvis.specs.declared.repo.Member.{Member}
+use Rattle.gvis.specs.declared.repo.Repo.{Repo}
+use Rattle.gvis.specs.Pairs.{paired}
 
-abbrev pub pkgs_of : List Member → List Pkg
-pkgs_of members = map (λ m. m.pkg) members
+abbrev pub members : Repo → List Member
+members repo = paired repo.pkgs repo.bodies
 
 -- a package in a context in which it is judged
 pub record Case : Type 0 where
@@ -22,13 +24,24 @@ case_of among m profile level = record {
   parent = record { pkg = m.pkg; profile = profile; level = level; among = among };
 }
 
-abbrev pub case_in : List Pkg → Member → Profile → Option Case
-case_in among m profile = option_map (case_of among m profile) (judged m.pkg profile)
+abbrev pub is_level : Level → Option Level → Bool
+is_level Stable (Some Stable) = true
+is_level Testing (Some Testing) = true
+is_level level other = false
 
--- a package in all profiles that judge it, by profile line
-abbrev pub cases_of : List Pkg → List Profile → Member → List Case
-cases_of among profiles m = filter_map (case_in among m) profiles
+-- the case of the package at this level, where that is the one at which the profile judges it
+abbrev pub case_at : List Pkg → Profile → Level → Member → Option Case
+case_at among profile level m = if is_level level (judged m.pkg profile) then Some (case_of among m profile level) else None
 
--- by package, then by profile line
+abbrev pub cases_at : Repo → Profile → Level → List Case
+cases_at repo profile level = filter_map (case_at repo.pkgs profile level) (members repo)
+
+abbrev pub levels : List Level
+levels = Stable ∷ Testing ∷ []
+
+abbrev pub cases_in : Repo → Profile → List Case
+cases_in repo profile = flat_map (cases_at repo profile) levels
+
+-- by profile line, by level, by package
 abbrev pub cases : Repo → List Case
-cases repo = flat_map (cases_of (pkgs_of repo.members) repo.profiles) repo.members
+cases repo = flat_map (cases_in repo) repo.profiles

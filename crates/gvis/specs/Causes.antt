@@ -1,6 +1,6 @@
 -- Why a repository wasn't judged.
 use Rattle.std.specs.Prelude.{◌≡◌, Some}
-use Rattle.gvis.specs.declared.facts.Repo.{Repo}
+use Rattle.gvis.specs.declared.repo.Repo.{Repo}
 use Rattle.gvis.specs.declared.judging.JudgeFault.{JudgeFault}
 use Rattle.gvis.specs.declared.judging.JudgeFault.TheVariants.{Wide, NoMemory}
 use Rattle.gvis.specs.RepoReports.{first_wide}

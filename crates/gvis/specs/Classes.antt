@@ -1,21 +1,19 @@
--- The keys of the classes, and which classes an EAPI has (PMS chapter 7).
-use Rattle.std.specs.Prelude.{ℕ, Bool, true, false, List, codes}
-use Rattle.gvis.specs.declared.facts.Eapi.{Eapi}
-use Rattle.gvis.specs.declared.facts.Eapi.TheVariants.{Five, Six, Seven}
-use Rattle.gvis.specs.declared.facts.Class.{Class}
-use Rattle.gvis.specs.declared.facts.Class.TheVariants.{Depend, Bdepend, Rdepend, Pdepend, Idepend}
+-- The classes of dependencies of a body (PMS chapter 8).
+use Rattle.std.specs.Prelude.{List, [], ◌∷◌, Option, None}
+use Rattle.gv_expr.specs.Dep.{Dep}
+use Rattle.gv_facts.specs.declared.kinds.Class.{Class}
+use Rattle.gv_facts.specs.declared.kinds.Class.TheVariants.{Required, Depend, Bdepend, Rdepend, Pdepend, Idepend}
+use Rattle.gv_entry.specs.declared.entry.Body.{Body}
 
-abbrev pub has_class : Eapi → Class → Bool
-has_class Five Bdepend = false
-has_class Six Bdepend = false
-has_class Five Idepend = false
-has_class Six Idepend = false
-has_class Seven Idepend = false
-has_class eapi class = true
+-- in the order of their queries
+abbrev pub classes : List Class
+classes = Depend ∷ Bdepend ∷ Rdepend ∷ Pdepend ∷ Idepend ∷ []
 
-abbrev pub class_text : Class → List ℕ
-class_text Depend = codes "DEPEND"
-class_text Bdepend = codes "BDEPEND"
-class_text Rdepend = codes "RDEPEND"
-class_text Pdepend = codes "PDEPEND"
-class_text Idepend = codes "IDEPEND"
+-- the class of a body, None where it is broken. REQUIRED_USE is none
+abbrev pub class_in : Body → Class → Option (List Dep)
+class_in body Required = None
+class_in body Depend = body.depend
+class_in body Bdepend = body.bdepend
+class_in body Rdepend = body.rdepend
+class_in body Pdepend = body.pdepend
+class_in body Idepend = body.idepend

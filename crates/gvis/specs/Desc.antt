@@ -6,8 +6,8 @@ use Rattle.std.specs.List.{list_any}
 use Rattle.gv_base.specs.FileMap.{FileMap}
 use Rattle.std.specs.Str.{bytes_eq}
 use Rattle.gv_version.specs.Names.{is_keyword}
-use Rattle.gvis.specs.declared.facts.Status.{Status}
-use Rattle.gvis.specs.declared.facts.Status.TheVariants.{Stable, Dev, Exp}
+use Rattle.gv_facts.specs.declared.kinds.Status.{Status}
+use Rattle.gv_facts.specs.declared.kinds.Status.TheVariants.{Stable, Dev, Exp}
 use Rattle.gvis.specs.declared.desc.DescLine.{DescLine}
 use Rattle.gvis.specs.Lines.{line_words, numbered_lines}
 use Rattle.gvis.specs.Paths.{is_relative}

@@ -1,16 +1,13 @@
 -- What was read so far.
-use Rattle.std.specs.Prelude.{◌≡◌, ℕ, List, Bool, true, false, Option, Some, None, map, refl}
-use Rattle.std.specs.declared.vec.Vec.{Vec}
-use Rattle.std.specs.declared.alloc.Global.{Global}
-use Rattle.std.specs.FinMap.{FinMap, from_entries, code, get}
+use Rattle.std.specs.Prelude.{◌≡◌, ℕ, List, Bool, true, false, Option, Some, None, refl}
 use Rattle.std.specs.Coded.{Coded, code_by, coded×, coded_ℕ, coded_bool, coded_list, coded_option}
-use Rattle.gv_base.specs.FileMap.{byte_cmp}
+use Rattle.gv_base.specs.ByteMap.{ByteMap, coded_byte_map}
 use Rattle.gv_base.specs.declared.tree.Found.{Found}
 use Rattle.gv_base.specs.declared.tree.Found.TheVariants.{File, Dir, Absent}
 
 -- what stands at each path that was read
 abbrev pub Known : Type 0
-Known = FinMap byte_cmp Found
+Known = ByteMap Found
 
 abbrev found_parts : Found → Option (List ℕ) × Bool
 found_parts (File bytes) = (Some bytes, true)
@@ -31,10 +28,4 @@ abbrev pub coded_found : Coded Found
 coded_found = code_by (Option (List ℕ) × Bool) (coded× (coded_option (coded_list coded_ℕ)) coded_bool) found_parts (λ p. of_parts p.0 p.1) parts_back
 
 abbrev pub coded_known : Coded Known
-coded_known = code (coded_list coded_ℕ) coded_found
-
-abbrev pub known_entry : Vec ℕ Global × Found → List ℕ × Found
-known_entry e = (e.0.items, e.1)
-
-abbrev pub known_of : List (Vec ℕ Global × Found) → Known
-known_of es = from_entries (map known_entry es)
+coded_known = coded_byte_map coded_found

@@ -1,11 +1,11 @@
 -- Why a tree was not loaded.
-use Rattle.std.specs.Prelude.{◌≡◌, ℕ, List, Option, Some, None, IfSome, Result, Ok, Err}
+use Rattle.std.specs.Prelude.{◌≡◌, ℕ, Option, Some, None, IfSome}
 use Rattle.gv_base.specs.Causes.{Rose}
 use Rattle.gv_base.specs.FileMap.{FileMap}
 use Rattle.gvis.specs.declared.faults.LoadFault.{LoadFault}
 use Rattle.gvis.specs.declared.faults.LoadFault.TheVariants.{Tree, NotARepository, NotBuilt, NoMemory}
-use Rattle.gvis.specs.Look.{Look, IsTold, look_in, look_of}
-use Rattle.gvis.specs.Reading.{Refusal, Step, refused, first_of, first_refusal}
+use Rattle.gvis.specs.Look.{IsTold, look_of}
+use Rattle.gvis.specs.Reading.{Refusal, first_refusal}
 
 -- a fault of the tree comes with a count that rose. Another refusal comes with a count that stands, and is that of the files
 abbrev pub Cause : Option FileMap → ℕ → ℕ → Refusal → LoadFault → Type 0

@@ -2,7 +2,8 @@
 use Rattle.std.specs.Prelude.{ℕ, ◌==◌, nat_le, ◌&&◌, Bool, true, false, if◌then◌else◌, List, [], ◌∷◌, Option, Some, None, filter_map, flat_map}
 use Rattle.gv_base.specs.Order.{in_order}
 use Rattle.gv_version.specs.Names.{is_category, is_flag}
-use Rattle.gvis.specs.declared.facts.Rule.{Rule}
+use Rattle.gv_facts.specs.declared.rules.Rule.{Rule}
+use Rattle.gv_facts.specs.declared.rules.Effect.TheVariants.{Mask}
 use Rattle.gvis.specs.Lines.{line_words, file_lines}
 
 -- a good line of `categories` has one word, a category
@@ -15,12 +16,16 @@ category_in (word ∷ next ∷ words) = None
 abbrev pub categories_in : List ℕ → List (List ℕ)
 categories_in bytes = in_order (filter_map (λ line. category_in (line_words line)) (file_lines bytes))
 
+-- a rule that masks the flag in all packages, or ends that
+abbrev pub masking : (flag : List ℕ) → (on : Bool) → Rule
+masking flag on = record { effect = Mask; stable = false; atom = None; flag = flag; on = on }
+
 -- a word of `use.mask`: a flag, or `-` and a flag
 abbrev pub rule_of : List ℕ → Option Rule
 rule_of [] = None
 rule_of (b ∷ bs) =
-    if b == 45 then (if is_flag bs then Some (record { flag = bs; on = false }) else None)
-    else (if is_flag (b ∷ bs) then Some (record { flag = b ∷ bs; on = true }) else None)
+    if b == 45 then (if is_flag bs then Some (masking bs false) else None)
+    else (if is_flag (b ∷ bs) then Some (masking (b ∷ bs) true) else None)
 
 -- a good line has one such word
 abbrev pub rule_in : List (List ℕ) → Option Rule

@@ -1,37 +1,36 @@
--- The queries of a case, one for each class of its EAPI, and what each of them asks.
-use Rattle.std.specs.Prelude.{ℕ, Bool, ◌&&◌, nat_lt, List, [], ◌∷◌, Option, length}
+-- The queries of a case, one for each class of its EAPI that can be judged, and what each of them asks.
+use Rattle.std.specs.Prelude.{ℕ, Bool, ◌&&◌, nat_lt, List, [], ◌++◌, Option, length, unwrap_or}
 use Rattle.std.specs.List.{list_any}
+use Rattle.std.specs.Option.{is_some}
 use Rattle.gv_expr.specs.Dep.{Dep, deps}
-use Rattle.gv_expr.specs.Mentioned.{dep_mentions}
-use Rattle.gvis.specs.declared.facts.Body.{Body}
-use Rattle.gvis.specs.declared.facts.Class.{Class}
-use Rattle.gvis.specs.declared.facts.Class.TheVariants.{Depend, Bdepend, Rdepend, Pdepend, Idepend}
-use Rattle.gvis.specs.Classes.{has_class}
-use Rattle.gvis.specs.Allowed.{query_flags, is_failing}
-use Rattle.gvis.specs.Least.{least}
+use Rattle.gv_expr.specs.Mentioned.{dep_mentions, req_mentions}
+use Rattle.gv_expr.specs.Req.{Req, reqs}
+use Rattle.gv_facts.specs.declared.kinds.Class.{Class}
+use Rattle.gv_facts.specs.Classes.{has_class}
+use Rattle.gvis.specs.Classes.{classes, class_in}
+use Rattle.gv_entry.specs.Allowed.{Parent, is_failing, query_flags}
+use Rattle.gv_entry.specs.Least.{least}
 use Rattle.gvis.specs.Cases.{Case}
 
-abbrev pub classes : List Class
-classes = Depend ∷ Bdepend ∷ Rdepend ∷ Pdepend ∷ Idepend ∷ []
-
-abbrev pub class_in : Body → Class → List Dep
-class_in body Depend = body.depend
-class_in body Bdepend = body.bdepend
-class_in body Rdepend = body.rdepend
-class_in body Pdepend = body.pdepend
-class_in body Idepend = body.idepend
-
+-- whether the case has a query for the class: the EAPI has it, and neither it nor REQUIRED_USE is broken
 abbrev pub has_query : Case → Class → Bool
-has_query c class = has_class c.parent.pkg.eapi class
+has_query c class = has_class c.parent.pkg.eapi class && (is_some c.member.body.required && is_some (class_in c.member.body class))
+
+abbrev pub required_of : Case → List Req
+required_of c = unwrap_or c.member.body.required []
 
 abbrev pub class_of : Case → Class → List Dep
-class_of c class = class_in c.member.body class
+class_of c class = unwrap_or (class_in c.member.body class) []
+
+-- the flags of the query of a class: REQUIRED_USE and the class mention them, and they are free
+abbrev pub class_flags : Parent → List Req → List Dep → List (List ℕ)
+class_flags c required class = query_flags c (req_mentions (reqs required) ++ dep_mentions (deps class))
 
 abbrev pub flags_of : Case → Class → List (List ℕ)
-flags_of c class = query_flags c.parent (dep_mentions (deps (class_of c class)))
+flags_of c class = class_flags c.parent (required_of c) (class_of c class)
 
 abbrev pub asks : Case → Class → List Bool → Bool
-asks c class bits = is_failing c.parent (class_of c class) (flags_of c class) bits
+asks c class bits = is_failing c.parent (required_of c) (class_of c class) (flags_of c class) bits
 
 -- the least failing assignment, if there is one
 abbrev pub least_asked : Case → Class → Option (List Bool)

@@ -1,20 +1,19 @@
 -- What a scan reads, in order, and where it is refused.
-use Rattle.std.specs.Prelude.{ℕ, ◌==◌, nat_lt, List, [], ◌∷◌, ◌++◌, Bool, if◌then◌else◌, Option, Some, None, length, filter, map, flat_map, codes}
+use Rattle.std.specs.Prelude.{ℕ, nat_lt, List, [], ◌∷◌, ◌++◌, ◌&&◌, is_some, if◌then◌else◌, Option, Some, None, length, filter, map, flat_map, codes}
 use Rattle.gv_base.specs.declared.tree.Found.{Found}
 use Rattle.gv_base.specs.declared.tree.Found.TheVariants.{File, Dir, Absent}
 use Rattle.gvis.specs.declared.desc.DescLine.{DescLine}
-use Rattle.gvis.specs.declared.entry.EntryRead.{EntryRead}
-use Rattle.gvis.specs.declared.entry.EntryRead.TheVariants as entries
+use Rattle.gv_entry.specs.declared.entry.Entry.{Entry}
 use Rattle.gvis.specs.declared.faults.LoadFault.{LoadFault}
 use Rattle.gvis.specs.declared.faults.LoadFault.TheVariants.{NotARepository, NotBuilt}
 use Rattle.gvis.specs.declared.layout.Layout.{Layout}
-use Rattle.gvis.specs.EntryRead.{entry_of}
+use Rattle.gv_entry.specs.EntryRead.{entry_of}
 use Rattle.gvis.specs.Look.{Look}
-use Rattle.gvis.specs.Paths.{within, is_visible, resolved}
+use Rattle.gvis.specs.Paths.{within, resolved}
+use Rattle.gvis.specs.Pf.{is_pf}
 use Rattle.gvis.specs.Desc.{counted_lines}
 use Rattle.gvis.specs.ProfileFiles.{categories_in}
-use Rattle.gvis.specs.declared.entry_names.EntryName.{EntryName}
-use Rattle.gvis.specs.EntryNames.{entry_name}
+use Rattle.gvis.specs.UseAsked.{body_asks_use}
 
 unfoldable pub most_bytes : ℕ
 most_bytes = 16777216
@@ -45,7 +44,7 @@ pub data Step : Type 0 where
   read : (path : List ℕ) → Step  -- anything may stand there
   plain : (path : List ℕ) → Step  -- no folder may stand there
   absent : (path : List ℕ) → Step  -- nothing may stand there
-  entry : (category : List ℕ) → (name : List ℕ) → Step  -- a listed name of the cache
+  entry : (category : List ℕ) → (pf : List ℕ) → Step  -- a listed entry of the cache
 
 abbrev pub Refusal : Type 0
 Refusal = Option LoadFault
@@ -71,10 +70,9 @@ there path (File bytes) = Some (NotBuilt path)
 there path Dir = Some (NotBuilt path)
 there path Absent = None
 
-abbrev pub not_built : List ℕ → EntryRead → Refusal
-not_built path (entries.Package member) = None
-not_built path entries.NoPackage = None
-not_built path entries.NotBuilt = Some (NotBuilt path)
+-- a package that asks for USE flags of others
+abbrev pub not_built : List ℕ → Entry → Refusal
+not_built path e = if is_some e.head && body_asks_use e.body then Some (NotBuilt path) else None
 
 -- the first of two refusals
 abbrev pub or_else : Refusal → Refusal → Refusal
@@ -82,23 +80,18 @@ or_else (Some fault) later = Some fault
 or_else None later = later
 
 -- an entry that is no file counts as not there
-abbrev pub unread : List ℕ → List ℕ → EntryName → Found → Refusal
-unread category pf name (File bytes) =
-    or_else (too_large (entry_path category pf) (File bytes)) (not_built (entry_path category pf) (entry_of category name.name name.version pf bytes))
-unread category pf name Dir = None
-unread category pf name Absent = None
-
--- a name that isn't of the plain form is refused, whatever stands there
-abbrev pub bad_entry : List ℕ → List ℕ → Option EntryName → Found → Refusal
-bad_entry category pf None found = Some (NotBuilt (entry_path category pf))
-bad_entry category pf (Some name) found = unread category pf name found
+abbrev pub unread : List ℕ → List ℕ → Found → Refusal
+unread category pf (File bytes) =
+    or_else (too_large (entry_path category pf) (File bytes)) (not_built (entry_path category pf) (entry_of category pf bytes))
+unread category pf Dir = None
+unread category pf Absent = None
 
 abbrev pub refused : Look → Step → Refusal
 refused look (need path) = no_file path (look.found path)
 refused look (read path) = too_large path (look.found path)
 refused look (plain path) = folder path (look.found path)
 refused look (absent path) = there path (look.found path)
-refused look (entry category pf) = bad_entry category pf (entry_name pf) (look.found (entry_path category pf))
+refused look (entry category pf) = unread category pf (look.found (entry_path category pf))
 
 -- the refusal of the first of these steps that has one
 abbrev pub first_of : Look → List Step → Refusal
@@ -125,9 +118,9 @@ dir_steps look (Some dir) = read dir ∷ inside dir (look.found dir)
 abbrev pub line_steps : Look → DescLine → List Step
 line_steps look line = dir_steps look (resolved layout.profiles line.path)
 
--- names with other bytes are passed over
+-- names that are no PF are passed over
 abbrev pub listed : Look → List ℕ → List (List ℕ)
-listed look category = filter is_visible (look.names (within layout.cache category))
+listed look category = filter is_pf (look.names (within layout.cache category))
 
 abbrev pub category_steps : Look → List ℕ → List Step
 category_steps look category = map (entry category) (listed look category)

@@ -3,19 +3,20 @@ use Rattle.std.specs.Prelude.{ℕ, Bool, true, false, List, [], ◌∷◌, ◌++
 use Rattle.std.specs.BTreeSet.{insert_key}
 use Rattle.gv_expr.specs.DepGrammar.{item_text}
 use Rattle.gv_base.specs.Words.{joined}
-use Rattle.gvis.specs.declared.facts.Class.{Class}
-use Rattle.gvis.specs.declared.facts.Pkg.{Pkg}
-use Rattle.gvis.specs.declared.facts.Repo.{Repo}
-use Rattle.gvis.specs.declared.facts.Status.{Status}
-use Rattle.gvis.specs.declared.facts.Status.TheVariants.{Stable, Dev, Exp}
+use Rattle.gv_facts.specs.declared.kinds.Class.{Class}
+use Rattle.gv_facts.specs.declared.pkg.Pkg.{Pkg}
+use Rattle.gvis.specs.declared.repo.Repo.{Repo}
+use Rattle.gv_facts.specs.declared.kinds.Status.{Status}
+use Rattle.gv_facts.specs.declared.kinds.Status.TheVariants.{Stable, Dev, Exp}
 use Rattle.gvis.specs.declared.report.ContextName.{ContextName}
 use Rattle.gvis.specs.declared.report.Keyword.{Keyword}
 use Rattle.gvis.specs.declared.report.Keyword.TheVariants as keywords
 use Rattle.gvis.specs.declared.report.Report.{Report}
 use Rattle.gvis.specs.declared.report.Subject.{Subject}
-use Rattle.gvis.specs.Allowed.{Parent, assignment, first_failing}
+use Rattle.gv_entry.specs.Allowed.{Parent, assignment, first_failing}
 use Rattle.gvis.specs.Cases.{Case, cases}
-use Rattle.gvis.specs.Queries.{classes, class_of, flags_of, has_query, has_wide, least_asked}
+use Rattle.gvis.specs.Classes.{classes}
+use Rattle.gvis.specs.Queries.{class_of, flags_of, has_query, has_wide, least_asked}
 use Rattle.gvis.specs.ReportOrder.{subject_cmp, ordered}
 use Rattle.gvis.specs.ReportText.{report_text, subject_text}
 
@@ -46,17 +47,17 @@ nonsolvable c class bits = record {
   class = class;
   context = context_of c.parent;
   witness = joined (witness_words (flags_of c class) bits);
-  detail = unwrap_or (option_map item_text (first_failing c.parent (class_of c class) (assignment (flags_of c class) bits))) [];
+  detail = unwrap_or (option_map item_text (first_failing c.parent (class_of c class) (assignment c.parent (flags_of c class) bits))) [];
 }
 
--- of a class that the EAPI has, under the least failing assignment
+-- of a class that has a query, under the least failing assignment
 abbrev pub query_report : Case → Class → Option Report
 query_report c class = if has_query c class then option_map (nonsolvable c class) (least_asked c class) else None
 
 abbrev pub case_reports : Case → List Report
 case_reports c = filter_map (query_report c) classes
 
--- all reports, by package as they were read
+-- all reports, in the order of the cases
 abbrev pub reports : Repo → List Report
 reports repo = flat_map case_reports (cases repo)
 

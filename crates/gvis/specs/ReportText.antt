@@ -1,8 +1,8 @@
 -- The lines of reports (a format of this project).
 use Rattle.std.specs.Prelude.{ℕ, List, ◌++◌, codes, flat_map}
-use Rattle.gvis.specs.Classes.{class_text}
-use Rattle.gvis.specs.declared.facts.Level.{Level}
-use Rattle.gvis.specs.declared.facts.Level.TheVariants.{Stable, Testing}
+use Rattle.gv_facts.specs.Classes.{class_text}
+use Rattle.gv_facts.specs.declared.kinds.Level.{Level}
+use Rattle.gv_facts.specs.declared.kinds.Level.TheVariants.{Stable, Testing}
 use Rattle.gvis.specs.declared.report.Keyword.{Keyword}
 use Rattle.gvis.specs.declared.report.Keyword.TheVariants as keywords
 use Rattle.gvis.specs.declared.report.Subject.{Subject}

@@ -1,10 +1,9 @@
 -- What a run answers, why, and what it leaves.
 use Rattle.std.specs.Prelude.{◌≡◌, ℕ, ◌≤◌, List, [], ◌∷◌, ◌++◌, Bool, true, false, not, Option, Some, None, Result, Ok, Err, take, IfSome, IfOk, IfErr, codes, if◌then◌else◌, ◌⊎◌}
-use Rattle.std.specs.Str.{bytes_eq}
 use Rattle.gv_base.specs.Causes.{Rose}
 use Rattle.gv_base.specs.FileMap.{FileMap}
 use Rattle.gv_base.specs.Outside.{gains}
-use Rattle.gvis.specs.declared.facts.Repo.{Repo}
+use Rattle.gvis.specs.declared.repo.Repo.{Repo}
 use Rattle.gvis.specs.declared.faults.LoadFault.{LoadFault}
 use Rattle.gvis.specs.declared.faults.LoadFault.TheVariants as faults
 use Rattle.gvis.specs.declared.refusal.Refusal.{Refusal}

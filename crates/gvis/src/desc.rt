@@ -7,10 +7,10 @@ ghost use Rattle.std.specs.Str.{bytes_eq};
 ghost use Rattle.gvis.specs.Lines.{line_words};
 ghost use Rattle.gvis.specs.Desc.{Keeps, status_word, key_of, line_key, repeats, good_line, with_line, counted_lines};
 
-use crate::Status;
 use crate::lines::line_words;
 use crate::paths::is_relative;
 use gv_base::{Cut, Files, NoMemory, Text, Texts, next_piece};
+use gv_facts::Status;
 use gv_version::is_keyword;
 use std::alloc::Global;
 use std::marker::Model;

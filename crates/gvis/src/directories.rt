@@ -10,12 +10,13 @@ ghost use Rattle.gvis.specs.ProfileFiles.{is_good_eapi, rules_in};
 ghost use Rattle.gvis.specs.Reading.{layout, refused, first_of, read, plain, absent, absent_in, inside, dir_steps, file_bytes};
 ghost use Rattle.gvis.specs.Repository.{rules_inside};
 
+use crate::LoadFault;
 use crate::layout::Layout;
 use crate::paths::within;
 use crate::profile_files::{is_good_eapi, rules_in};
 use crate::reader::Reader;
-use crate::{LoadFault, Rules};
 use gv_base::{Found, Text, Texts, Tree};
+use gv_facts::Rules;
 use std::alloc::Global;
 
 // Sees that a directory has no file or folder of this name.

@@ -1,43 +1,62 @@
-//! Reads the entries of the cache, category by category, each with its names in byte order (PMS chapter 14).
+//! Reads the entries of the cache, category by category, each with its PFs in byte order (PMS chapter 14).
 //!
 //! Costs a listing for each category, sorted, and O(bytes) for each entry. Entries aren't kept.
-ghost use Rattle.std.specs.Prelude.{◌≡◌, ◌≤◌, ◌++◌, ◌⊎◌, [], Some, None, IfOk, IfErr, OnOk, map, filter, filter_map, flat_map, option_to_list};
+ghost use Rattle.std.specs.Prelude.{◌≡◌, ◌≤◌, ◌++◌, ◌⊎◌, [], true, Some, None, IfOk, IfErr, OnOk, map, filter, filter_map, flat_map, option_to_list};
+ghost use Rattle.std.specs.List.{list_all};
 ghost use Rattle.gv_base.specs.Order.{in_order};
 ghost use Rattle.gvis.specs.Agreement.{Knows};
-ghost use Rattle.gvis.specs.EntryRead.{entry_of};
+ghost use Rattle.gv_entry.specs.EntryRead.{entry_of};
 ghost use Rattle.gvis.specs.Look.{IsTold, look_in};
 ghost use Rattle.gvis.specs.LoadCauses.{Cause, Passes};
-ghost use Rattle.gvis.specs.Paths.{within, is_visible};
+ghost use Rattle.gvis.specs.Paths.{within};
+ghost use Rattle.gvis.specs.Pf.{is_pf};
 ghost use Rattle.gvis.specs.Reading.{Refusal, layout, refused, first_of, entry, entry_path, unread, not_built, category_steps, listed};
 ghost use Rattle.gvis.specs.Repository.{package_in, member_at, member_of, members_of};
 
-use crate::entry_names::{EntryName, entry_name};
 use crate::faults::{failed, not_built};
 use crate::layout::Layout;
-use crate::paths::{is_visible, within};
+use crate::paths::within;
+use crate::pf::pfs_among;
 use crate::reader::Reader;
-use crate::{EntryRead, LoadFault, Member, Members, read_entry};
+use crate::use_asked::body_asks_use;
+use crate::{LoadFault, Member, Members};
 use gv_base::{Found, NoMemory, Text, Texts, Tree, TreeFault};
+use gv_entry::{Entry, read_entry};
 use std::alloc::Global;
+
+// The package of an entry with its body, if it says one.
+fn member_in(alloc: Global, path: &Text, entry: Entry) -> Result<Option<Member>, LoadFault>
+    ensures member { IfOk result (λ member. member ≡ package_in entry) }
+    ensures passed { OnOk result (not_built path.now entry ≡ None) }
+    ensures refused { IfErr result (λ fault. (fault ≡ LoadFault.NoMemory) ⊎ ((fault ≡ LoadFault.NotBuilt path.now) × (not_built path.now entry ≡ Some fault))) }
+{
+    let Entry { head, body, .. } = entry;
+    match head {
+        Some(_) if body_asks_use(&body) => Err(not_built(alloc, path)),
+        Some(pkg) => Ok(Some(Member { pkg, body })),
+        None => Ok(None),
+    }
+}
 
 // The package that an entry's bytes say, if they say one.
 fn package_in(
     alloc: Global,
     category: &Text,
     pf: &Text,
-    name: &EntryName,
     path: &Text,
     bytes: &Text,
 ) -> Result<Option<Member>, LoadFault>
-    ensures member { IfOk result (λ member. member ≡ package_in (entry_of category.now name.now.name name.now.version pf.now bytes.now)) }
-    ensures passed { OnOk result (not_built path.now (entry_of category.now name.now.name name.now.version pf.now bytes.now) ≡ None) }
+    requires { is_pf pf.now ≡ true }
+    ensures member { IfOk result (λ member. member ≡ package_in (entry_of category.now pf.now bytes.now)) }
+    ensures passed { OnOk result (not_built path.now (entry_of category.now pf.now bytes.now) ≡ None) }
     ensures refused { IfErr result (λ fault. (fault ≡ LoadFault.NoMemory)
-        ⊎ ((fault ≡ LoadFault.NotBuilt path.now) × (not_built path.now (entry_of category.now name.now.name name.now.version pf.now bytes.now) ≡ Some fault))) }
+        ⊎ ((fault ≡ LoadFault.NotBuilt path.now) × (not_built path.now (entry_of category.now pf.now bytes.now) ≡ Some fault))) }
 {
-    match read_entry(alloc, category, &name.name, name.version, pf, bytes.bytes()) {
-        Ok(EntryRead::Package { member }) => Ok(Some(member)),
-        Ok(EntryRead::NoPackage) => Ok(None),
-        Ok(EntryRead::NotBuilt) => Err(not_built(alloc, path)),
+    match read_entry(alloc, category, pf, bytes.bytes()) {
+        Ok(entry) => match member_in(alloc, path, entry) {
+            Ok(member) => Ok(member),
+            Err(fault) => Err(fault),
+        },
         Err(_) => Err(LoadFault::NoMemory),
     }
 }
@@ -49,20 +68,20 @@ fn read_member<T: Tree>(
     tree: &mut T,
     category: &Text,
     pf: &Text,
-    name: &EntryName,
     path: &Text,
 ) -> Result<Option<Member>, LoadFault>
     requires knows { Knows (T.files tree.old) reader.now }
     requires path { path.now ≡ entry_path category.now pf.now }
-    ensures member { IfOk result (λ member. IsTold (T.files tree.old) → member ≡ member_at category.now pf.now name.now ((look_in (T.files tree.old)).found path.now)) }
-    ensures passed { OnOk result (Passes (T.files tree.old) (unread category.now pf.now name.now ((look_in (T.files tree.old)).found path.now))) }
-    ensures cause { IfErr result (Cause (T.files tree.old) (T.faults tree.old) (T.faults tree.new) (unread category.now pf.now name.now ((look_in (T.files tree.old)).found path.now))) }
+    requires pf { is_pf pf.now ≡ true }
+    ensures member { IfOk result (λ member. IsTold (T.files tree.old) → member ≡ member_at category.now pf.now ((look_in (T.files tree.old)).found path.now)) }
+    ensures passed { OnOk result (Passes (T.files tree.old) (unread category.now pf.now ((look_in (T.files tree.old)).found path.now))) }
+    ensures cause { IfErr result (Cause (T.files tree.old) (T.faults tree.old) (T.faults tree.new) (unread category.now pf.now ((look_in (T.files tree.old)).found path.now))) }
     ensures files { T.files tree.new ≡ T.files tree.old }
     ensures later { T.faults tree.old ≤ T.faults tree.new }
     ensures calm { OnOk result (T.faults tree.new ≡ T.faults tree.old) }
 {
     match reader.read_last(tree, path) {
-        Ok(Found::File(bytes)) => match package_in(alloc, category, pf, name, path, &bytes) {
+        Ok(Found::File(bytes)) => match package_in(alloc, category, pf, path, &bytes) {
             Ok(member) => Ok(member),
             Err(fault) => Err(fault),
         },
@@ -83,6 +102,7 @@ fn read_listed<T: Tree>(
 ) -> Result<Option<Member>, LoadFault>
     requires knows { Knows (T.files tree.old) reader.now }
     requires folder { folder.now ≡ within layout.cache category.now }
+    requires pf { is_pf pf.now ≡ true }
     ensures member { IfOk result (λ member. IsTold (T.files tree.old) → member ≡ member_of (look_in (T.files tree.old)) category.now pf.now) }
     ensures passed { OnOk result (Passes (T.files tree.old) (refused (look_in (T.files tree.old)) (entry category.now pf.now))) }
     ensures cause { IfErr result (Cause (T.files tree.old) (T.faults tree.old) (T.faults tree.new) (refused (look_in (T.files tree.old)) (entry category.now pf.now))) }
@@ -93,13 +113,9 @@ fn read_listed<T: Tree>(
     let Ok(path) = within(alloc, folder, pf.bytes()) else {
         return Err(LoadFault::NoMemory);
     };
-    match entry_name(alloc, pf.bytes()) {
-        Ok(Some(name)) => match read_member(alloc, reader, tree, category, pf, &name, &path) {
-            Ok(member) => Ok(member),
-            Err(fault) => Err(fault),
-        },
-        Ok(None) => Err(not_built(alloc, &path)),
-        Err(_) => Err(LoadFault::NoMemory),
+    match read_member(alloc, reader, tree, category, pf, &path) {
+        Ok(member) => Ok(member),
+        Err(fault) => Err(fault),
     }
 }
 
@@ -128,6 +144,7 @@ fn read_name<T: Tree>(
 ) -> Result<(), LoadFault>
     requires knows { Knows (T.files tree.old) reader.now }
     requires folder { folder.now ≡ within layout.cache category.now }
+    requires pf { is_pf pf.now ≡ true }
     ensures members { OnOk result (IsTold (T.files tree.old) → members.new ≡ members.old ++ option_to_list (member_of (look_in (T.files tree.old)) category.now pf.now)) }
     ensures passed { OnOk result (Passes (T.files tree.old) (refused (look_in (T.files tree.old)) (entry category.now pf.now))) }
     ensures cause { IfErr result (Cause (T.files tree.old) (T.faults tree.old) (T.faults tree.new) (refused (look_in (T.files tree.old)) (entry category.now pf.now))) }
@@ -157,6 +174,7 @@ fn read_names<T: Tree>(
 ) -> Result<(), LoadFault>
     requires knows { Knows (T.files tree.old) reader.now }
     requires folder { folder.now ≡ within layout.cache category.now }
+    requires pfs { list_all is_pf names.now ≡ true }
     ensures members { OnOk result (IsTold (T.files tree.old) → members.new ≡ members.old ++ filter_map (member_of (look_in (T.files tree.old)) category.now) names.now) }
     ensures passed { OnOk result (Passes (T.files tree.old) (first_of (look_in (T.files tree.old)) (map (entry category.now) names.now))) }
     ensures cause { IfErr result (Cause (T.files tree.old) (T.faults tree.old) (T.faults tree.new) (first_of (look_in (T.files tree.old)) (map (entry category.now) names.now))) }
@@ -172,37 +190,27 @@ fn read_names<T: Tree>(
     Ok(())
 }
 
-// The names whose bytes are all visible.
-fn visible(alloc: Global, names: &Texts) -> Result<Texts, NoMemory>
-    ensures { IfOk result (λ visible. visible ≡ filter is_visible names.now) }
-{
-    let mut visible = Texts::new(alloc);
-    for name in names.items() {
-        if is_visible(name.bytes()) {
-            visible.add(name.copy(alloc)?)?;
-        }
-    }
-    Ok(visible)
-}
-
-fn in_order(alloc: Global, parts: &Texts) -> Result<Texts, NoMemory>
-    ensures { IfOk result (λ names. names ≡ filter is_visible (in_order parts.now)) }
+#[tactic(auto, using(crate::proofs::Listings::all_pass))]
+fn pfs_in(alloc: Global, parts: &Texts) -> Result<Texts, NoMemory>
+    ensures value { IfOk result (λ pfs. pfs ≡ filter is_pf (in_order parts.now)) }
+    ensures pfs { IfOk result (λ pfs. list_all is_pf pfs ≡ true) }
 {
     let names = parts.in_order(alloc)?;
-    Ok(visible(alloc, &names)?)
+    Ok(pfs_among(alloc, &names)?)
 }
 
-// The names in a folder whose bytes are all visible, in byte order.
+// The names in a folder that are PFs, in byte order.
 #[tactic(auto, using(crate::proofs::Listings::told_names))]
-fn list_names<T: Tree>(alloc: Global, tree: &mut T, folder: &Text) -> Result<Texts, LoadFault>
-    ensures names { IfOk result (λ names. IsTold (T.files tree.old) → names ≡ filter is_visible ((look_in (T.files tree.old)).names folder.now)) }
+fn list_pfs<T: Tree>(alloc: Global, tree: &mut T, folder: &Text) -> Result<Texts, LoadFault>
+    ensures names { IfOk result (λ names. IsTold (T.files tree.old) → names ≡ filter is_pf ((look_in (T.files tree.old)).names folder.now)) }
+    ensures pfs { IfOk result (λ names. list_all is_pf names ≡ true) }
     ensures cause { (refusal : Refusal) → IfErr result (Cause (T.files tree.old) (T.faults tree.old) (T.faults tree.new) refusal) }
     ensures files { T.files tree.new ≡ T.files tree.old }
     ensures later { T.faults tree.old ≤ T.faults tree.new }
     ensures calm { OnOk result (T.faults tree.new ≡ T.faults tree.old) }
 {
     match tree.list(alloc, folder) {
-        Ok(parts) => match in_order(alloc, &parts) {
+        Ok(parts) => match pfs_in(alloc, &parts) {
             Ok(names) => Ok(names),
             Err(_) => Err(LoadFault::NoMemory),
         },
@@ -233,7 +241,7 @@ fn read_category<T: Tree>(
     let Ok(folder) = within(alloc, &names.cache, category.bytes()) else {
         return Err(LoadFault::NoMemory);
     };
-    let listed = match list_names(alloc, tree, &folder) {
+    let listed = match list_pfs(alloc, tree, &folder) {
         Ok(listed) => listed,
         Err(fault) => return Err(fault),
     };

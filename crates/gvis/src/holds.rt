@@ -1,121 +1,128 @@
 //! Whether a dependency holds under an assignment of flags (PMS chapter 8).
 //!
-//! O(its trees) steps, of which an atom costs a look-up in the index and a conditional O(the assignment's flags).
-ghost use Rattle.std.specs.Prelude.{◌≡◌, [], ◌∷◌, ◌<◌, None, Some, length, slice_get, IfOk, MatchOption};
+//! O(its trees) steps, down at most 64 groups; without memory. An atom costs a look-up among the candidates, and a
+//! conditional one in the assignment.
+ghost use Rattle.std.specs.Prelude.{◌≡◌, [], ◌∷◌, ◌<◌, None, Some, length, slice_get};
 ghost use Rattle.gv_expr.specs.Dep.{deps};
 ghost use Rattle.gv_expr.specs.DepView.{dep_of};
-ghost use Rattle.gvis.specs.Allowed.{assignment, class_holds, first_failing};
-ghost use Rattle.gvis.specs.AtomMet.{atom_met};
-ghost use Rattle.gvis.specs.Cases.{pkgs_of};
-ghost use Rattle.gvis.specs.Holds.{deps_hold, dep_holds, is_met};
-ghost use Rattle.gvis.specs.Judged.{case_of, IsIndexed, FailsFirst};
+ghost use Rattle.gv_facts.specs.AtomMet.{atom_met};
+ghost use Rattle.gv_entry.specs.Allowed.{class_holds, first_failing};
+ghost use Rattle.gv_entry.specs.Holds.{any_of, deps_hold, dep_holds, dep_members, empty_holds, is_dep_member};
+ghost use Rattle.gv_visible.specs.Told.{test_of};
+ghost use Rattle.gvis.specs.Judged.{AreAround, FailsFirst, on_of, parent_of};
 
-use crate::judged::Judged;
-use gv_base::{NoMemory, Text};
+use crate::assignment::Assignment;
+use crate::meeting::is_met;
 use gv_expr::{DepExpr, DepTree};
-use std::alloc::Global;
+use gv_facts::{Eapi, Pkg};
+use gv_visible::Candidates;
 
-/// Flags, each with whether it is on; all others are off.
-#[derive(Clone, Copy)]
-pub struct Assignment<'a> {
-    pub flags: &'a [Text],
-    pub bits: &'a [bool],
-}
-
-impl Assignment<'_> {
-    #[tactic(auto, using(crate::proofs::AssignmentLemmas::next_flag, crate::proofs::AssignmentLemmas::no_bits))]
-    fn is_on(&self, flag: &Text) -> bool
-        ensures { result ≡ assignment self.now.flags.now self.now.bits.now flag.now }
-    {
-        for (i, named) in self.flags.iter().enumerate() {
-            if i >= self.bits.len() {
-                return false;
-            }
-            if named.bytes() == flag.bytes() {
-                return self.bits[i];
-            }
-        }
-        false
+/// Whether a `||` or `^^` without members holds in this EAPI.
+pub fn empty_holds(eapi: Eapi) -> bool
+    ensures { result ≡ empty_holds eapi }
+{
+    match eapi {
+        Eapi::Five | Eapi::Six => true,
+        Eapi::Seven | Eapi::Eight => false,
     }
 }
 
-fn is_enabled(negated: bool, on: bool) -> bool
-    ensures { result ≡ is_met negated on }
+// Whether the tree is a member of the group that it stands in: a conditional that isn't enabled is none.
+fn is_member(tree: &DepTree, on: &Assignment<'_>) -> bool
+    ensures { result ≡ is_dep_member (dep_of tree.now) (on_of on.now) }
 {
-    if negated { !on } else { on }
+    match tree {
+        DepTree::If { flag, negated, .. } => on.meets(flag, *negated),
+        _ => true,
+    }
 }
 
 #[cycle(holds)]
-fn tree_holds(
-    alloc: Global,
+fn tree_holds<F: Fn(&Pkg) -> bool>(
     tree: &DepTree,
-    judged: &Judged<'_>,
+    candidates: &Candidates<'_, F>,
     on: &Assignment<'_>,
-) -> Result<bool, NoMemory>
-    requires { IsIndexed judged.now }
-    ensures { IfOk result (λ holds. holds ≡ dep_holds (dep_of tree.now) (atom_met (pkgs_of judged.now.members.now) judged.now.profile.now judged.now.level) (assignment on.now.flags.now on.now.bits.now)) }
+) -> bool
+    requires { AreAround (F.pre (test_of candidates.now)) (F.post (test_of candidates.now)) candidates.now on.now.judged.now }
+    ensures { result ≡ dep_holds (dep_of tree.now) (atom_met on.now.judged.now.pkgs.now on.now.judged.now.profile.now on.now.judged.now.level (on_of on.now)) (on_of on.now) (empty_holds on.now.judged.now.pkg.now.eapi) }
 {
     match tree {
-        DepTree::Leaf { atom } => judged.is_met(alloc, atom),
+        DepTree::Leaf { atom } => is_met(candidates, atom, on),
+        DepTree::All { items } => all_hold(items, candidates, on),
+        DepTree::Any { items } => some_holds(items, candidates, on),
         DepTree::If {
             flag,
             negated,
             items,
-        } => {
-            if is_enabled(*negated, on.is_on(flag)) {
-                all_hold(alloc, items, judged, on)
-            } else {
-                Ok(true)
-            }
-        }
+        } => !on.meets(flag, *negated) || all_hold(items, candidates, on),
     }
 }
 
 #[cycle(holds)]
-fn all_hold(
-    alloc: Global,
+fn all_hold<F: Fn(&Pkg) -> bool>(
     items: &DepExpr,
-    judged: &Judged<'_>,
+    candidates: &Candidates<'_, F>,
     on: &Assignment<'_>,
-) -> Result<bool, NoMemory>
-    requires { IsIndexed judged.now }
-    ensures { IfOk result (λ holds. holds ≡ deps_hold (deps items.now) (atom_met (pkgs_of judged.now.members.now) judged.now.profile.now judged.now.level) (assignment on.now.flags.now on.now.bits.now)) }
+) -> bool
+    requires { AreAround (F.pre (test_of candidates.now)) (F.post (test_of candidates.now)) candidates.now on.now.judged.now }
+    ensures { result ≡ deps_hold (deps items.now) (atom_met on.now.judged.now.pkgs.now on.now.judged.now.profile.now on.now.judged.now.level (on_of on.now)) (on_of on.now) (empty_holds on.now.judged.now.pkg.now.eapi) }
 {
     for tree in &items.items {
-        if !tree_holds(alloc, tree, judged, on)? {
-            return Ok(false);
+        if !tree_holds(tree, candidates, on) {
+            return false;
         }
     }
-    Ok(true)
+    true
 }
 
-/// Whether the class holds for the package under the assignment.
-pub fn class_holds(
-    alloc: Global,
-    judged: &Judged<'_>,
-    class: &DepExpr,
+// Whether some member holds. As long as there was no member, the answer is that of an empty group.
+#[cycle(holds)]
+#[tactic(auto, using(crate::proofs::Members::any_behind))]
+fn some_holds<F: Fn(&Pkg) -> bool>(
+    items: &DepExpr,
+    candidates: &Candidates<'_, F>,
     on: &Assignment<'_>,
-) -> Result<bool, NoMemory>
-    requires { IsIndexed judged.now }
-    ensures { IfOk result (λ holds. holds ≡ class_holds (case_of judged.now).parent class.now (assignment on.now.flags.now on.now.bits.now)) }
+) -> bool
+    requires { AreAround (F.pre (test_of candidates.now)) (F.post (test_of candidates.now)) candidates.now on.now.judged.now }
+    ensures { result ≡ any_of (empty_holds on.now.judged.now.pkg.now.eapi) (dep_members (deps items.now) (atom_met on.now.judged.now.pkgs.now on.now.judged.now.profile.now on.now.judged.now.level (on_of on.now)) (on_of on.now) (empty_holds on.now.judged.now.pkg.now.eapi)) }
 {
-    all_hold(alloc, class, judged, on)
+    let mut holds = empty_holds(on.judged.pkg.eapi);
+    for tree in &items.items {
+        if is_member(tree, on) {
+            if tree_holds(tree, candidates, on) {
+                return true;
+            }
+            holds = false;
+        }
+    }
+    holds
+}
+
+/// Whether the class holds for the judged package under the assignment.
+pub fn class_holds<F: Fn(&Pkg) -> bool>(
+    class: &DepExpr,
+    candidates: &Candidates<'_, F>,
+    on: &Assignment<'_>,
+) -> bool
+    requires { AreAround (F.pre (test_of candidates.now)) (F.post (test_of candidates.now)) candidates.now on.now.judged.now }
+    ensures { result ≡ class_holds (parent_of on.now.judged.now) class.now (on_of on.now) }
+{
+    all_hold(class, candidates, on)
 }
 
 /// The number, from 0, of the first top item that doesn't hold under the assignment.
-pub fn first_failing(
-    alloc: Global,
-    judged: &Judged<'_>,
+pub fn first_failing<F: Fn(&Pkg) -> bool>(
     class: &DepExpr,
+    candidates: &Candidates<'_, F>,
     on: &Assignment<'_>,
-) -> Result<Option<usize>, NoMemory>
-    requires { IsIndexed judged.now }
-    ensures { IfOk result (λ found. FailsFirst class.now (first_failing (case_of judged.now).parent class.now (assignment on.now.flags.now on.now.bits.now)) found) }
+) -> Option<usize>
+    requires { AreAround (F.pre (test_of candidates.now)) (F.post (test_of candidates.now)) candidates.now on.now.judged.now }
+    ensures { FailsFirst class.now (first_failing (parent_of on.now.judged.now) class.now (on_of on.now)) result }
 {
     for (i, tree) in class.items.iter().enumerate() {
-        if !tree_holds(alloc, tree, judged, on)? {
-            return Ok(Some(i));
+        if !tree_holds(tree, candidates, on) {
+            return Some(i);
         }
     }
-    Ok(None)
+    None
 }

@@ -1,26 +1,29 @@
 //! Judging a repository: which queries fail.
 //!
-//! Each member is judged in each profile, and each of its queries costs at most 2^12 trials. All look-ups of packages go
-//! through an index. The reports are kept in order until all are there.
-ghost use Rattle.std.specs.Prelude.{◌≡◌, ◌∷◌, [], None, option_map, IfSome, flat_map, fold, IfOk, IfErr, OnOk};
+//! For each profile and each level the packages are indexed once, beside the test that tells which are visible there. Each
+//! package that is judged there costs its queries, each at most 2^12 trials. The reports are kept in order until all are
+//! there.
+ghost use Rattle.std.specs.Prelude.{◌≡◌, ◌<◌, ◌^◌, [], None, length, flat_map, filter_map, fold, IfOk, IfErr, OnOk};
 ghost use Rattle.std.specs.BTreeSet.{insert_key};
 ghost use Rattle.std.specs.Option.{option_map_or};
-ghost use Rattle.gvis.specs.Cases.{case_in, cases_of, pkgs_of};
+ghost use Rattle.gv_visible.specs.Told.{level_of, pkgs_of, profile_of, test_of};
+ghost use Rattle.gvis.specs.Cases.{case_at, cases_at, cases_in};
 ghost use Rattle.gvis.specs.Causes.{IsWide};
-ghost use Rattle.gvis.specs.Index.{IsIndexOf};
-ghost use Rattle.gvis.specs.Judged.{case_of};
-ghost use Rattle.gvis.specs.ReportOrder.{ordered, report_cmp, subject_cmp};
+ghost use Rattle.gvis.specs.Judged.{MayJudge};
+ghost use Rattle.gvis.specs.Pairs.{paired};
+ghost use Rattle.gvis.specs.ReportOrder.{ordered, report_cmp};
 ghost use Rattle.gvis.specs.ReportText.{report_text};
-ghost use Rattle.gvis.specs.RepoReports.{case_reports, first_wide, reports, scan_text, wide_of, wide_subjects};
+ghost use Rattle.gvis.specs.RepoReports.{case_reports, first_wide, reports, scan_text};
 
-use crate::flags::judged;
-use crate::index::{Index, index_of};
 use crate::judged::Judged;
-use crate::queries::has_wide;
-use crate::report::{Report, Subject};
-use crate::reporting::{add_case_reports, subject_of};
-use crate::{Member, Profile, Repo};
+use crate::report::Report;
+use crate::reporting::add_case_reports;
+use crate::wide::{first_wide, is_judged_at};
+use crate::{Bodies, Repo};
 use gv_base::{NoMemory, Text};
+use gv_entry::Body;
+use gv_facts::{Level, Pkg, Profile};
+use gv_visible::{Candidates, visible};
 use std::alloc::Global;
 use std::collections::BTreeSet;
 
@@ -43,133 +46,91 @@ impl From<NoMemory> for JudgeFault {
     }
 }
 
-// The member in the profile, if it is judged there.
-fn case_in<'a>(
-    members: &'a [Member],
-    index: &'a Index,
-    member: &'a Member,
-    profile: &'a Profile,
-) -> Option<Judged<'a>>
-    ensures case { option_map case_of result ≡ case_in (pkgs_of members.now) member.now profile.now }
-    ensures index { IfSome result (λ j. (j.members.now ≡ members.now) × (j.index.now ≡ index.now)) }
+// Adds the reports of the package, if it is judged here.
+fn add_pkg_reports<F: Fn(&Pkg) -> bool>(
+    alloc: Global,
+    candidates: &Candidates<'_, F>,
+    pkg: &Pkg,
+    body: &Body,
+    reports: &mut BTreeSet<Report>,
+) -> Result<(), NoMemory>
+    requires { MayJudge (F.pre (test_of candidates.now)) (F.post (test_of candidates.now)) candidates.now }
+    ensures { OnOk result (reports.new.keys ≡ fold (insert_key report_cmp) reports.old.keys (option_map_or case_reports (case_at (pkgs_of candidates.now) (profile_of candidates.now) (level_of candidates.now) (record { pkg = pkg.now; body = body.now })) [])) }
 {
-    match judged(&member.pkg, profile) {
-        Some(level) => Some(Judged {
-            members,
-            index,
-            member,
-            profile,
-            level,
-        }),
-        None => None,
+    if !is_judged_at(pkg, candidates.profile(), candidates.level()) {
+        return Ok(());
     }
+    let judged = Judged {
+        pkgs: candidates.pkgs(),
+        pkg,
+        body,
+        profile: candidates.profile(),
+        level: candidates.level(),
+    };
+    add_case_reports(alloc, candidates, &judged, reports)
 }
 
+// Adds the reports of all packages that are judged here.
+#[tactic(auto, using(crate::proofs::CaseLemmas::next_member, crate::proofs::CaseLemmas::no_bodies))]
+fn add_all_reports<F: Fn(&Pkg) -> bool>(
+    alloc: Global,
+    candidates: &Candidates<'_, F>,
+    bodies: &Bodies,
+    reports: &mut BTreeSet<Report>,
+) -> Result<(), NoMemory>
+    requires { MayJudge (F.pre (test_of candidates.now)) (F.post (test_of candidates.now)) candidates.now }
+    ensures { OnOk result (reports.new.keys ≡ fold (insert_key report_cmp) reports.old.keys (flat_map case_reports (filter_map (case_at (pkgs_of candidates.now) (profile_of candidates.now) (level_of candidates.now)) (paired (pkgs_of candidates.now) bodies.now)))) }
+{
+    let bodies = bodies.items();
+    for (i, pkg) in candidates.pkgs().items().iter().enumerate() {
+        if i >= bodies.len() {
+            return Ok(());
+        }
+        add_pkg_reports(alloc, candidates, pkg, &bodies[i], reports)?;
+    }
+    Ok(())
+}
+
+fn add_level_reports(
+    alloc: Global,
+    repo: &Repo,
+    profile: &Profile,
+    level: Level,
+    reports: &mut BTreeSet<Report>,
+) -> Result<(), NoMemory>
+    requires { length repo.now.pkgs < 2 ^ 32 }
+    ensures { OnOk result (reports.new.keys ≡ fold (insert_key report_cmp) reports.old.keys (flat_map case_reports (cases_at repo.now profile.now level))) }
+{
+    let candidates = Candidates::new(alloc, &repo.pkgs, profile, level, |pkg: &Pkg| {
+        visible(pkg, profile, level)
+    })?;
+    add_all_reports(alloc, &candidates, &repo.bodies, reports)
+}
+
+#[tactic(auto, using(crate::proofs::CaseLemmas::both_levels))]
 fn add_profile_reports(
     alloc: Global,
     repo: &Repo,
-    index: &Index,
-    member: &Member,
     profile: &Profile,
     reports: &mut BTreeSet<Report>,
 ) -> Result<(), NoMemory>
-    requires { IsIndexOf repo.now.members index.now }
-    ensures { OnOk result (reports.new.keys ≡ fold (insert_key report_cmp) reports.old.keys (option_map_or case_reports (case_in (pkgs_of repo.now.members) member.now profile.now) [])) }
+    requires { length repo.now.pkgs < 2 ^ 32 }
+    ensures { OnOk result (reports.new.keys ≡ fold (insert_key report_cmp) reports.old.keys (flat_map case_reports (cases_in repo.now profile.now))) }
 {
-    match case_in(repo.members.items(), index, member, profile) {
-        Some(judged) => add_case_reports(alloc, &judged, reports),
-        None => Ok(()),
-    }
+    add_level_reports(alloc, repo, profile, Level::Stable, reports)?;
+    add_level_reports(alloc, repo, profile, Level::Testing, reports)
 }
 
 #[tactic(auto, using(crate::proofs::CaseLemmas::next_profile))]
-fn add_member_reports(
-    alloc: Global,
-    repo: &Repo,
-    index: &Index,
-    member: &Member,
-    reports: &mut BTreeSet<Report>,
-) -> Result<(), NoMemory>
-    requires { IsIndexOf repo.now.members index.now }
-    ensures { OnOk result (reports.new.keys ≡ fold (insert_key report_cmp) reports.old.keys (flat_map case_reports (cases_of (pkgs_of repo.now.members) repo.now.profiles member.now))) }
-{
-    for profile in repo.profiles.items() {
-        add_profile_reports(alloc, repo, index, member, profile, reports)?;
-    }
-    Ok(())
-}
-
-#[tactic(auto, using(crate::proofs::CaseLemmas::next_member))]
-fn reports_of(alloc: Global, repo: &Repo, index: &Index) -> Result<BTreeSet<Report>, NoMemory>
-    requires { IsIndexOf repo.now.members index.now }
+fn reports_of(alloc: Global, repo: &Repo) -> Result<BTreeSet<Report>, NoMemory>
+    requires { length repo.now.pkgs < 2 ^ 32 }
     ensures { IfOk result (λ kept. kept.keys ≡ ordered (reports repo.now)) }
 {
     let mut reports = BTreeSet::new(alloc);
-    for member in repo.members.items() {
-        add_member_reports(alloc, repo, index, member, &mut reports)?;
+    for profile in repo.profiles.items() {
+        add_profile_reports(alloc, repo, profile, &mut reports)?;
     }
     Ok(reports)
-}
-
-fn add_profile_wide(
-    alloc: Global,
-    repo: &Repo,
-    index: &Index,
-    member: &Member,
-    profile: &Profile,
-    wide: &mut BTreeSet<Subject>,
-) -> Result<(), NoMemory>
-    ensures { OnOk result (wide.new.keys ≡ fold (insert_key subject_cmp) wide.old.keys (option_map_or wide_of (case_in (pkgs_of repo.now.members) member.now profile.now) [])) }
-{
-    let Some(judged) = case_in(repo.members.items(), index, member, profile) else {
-        return Ok(());
-    };
-    if has_wide(alloc, &judged)? {
-        wide.insert(subject_of(alloc, &member.pkg)?)?;
-    }
-    Ok(())
-}
-
-#[tactic(auto, using(crate::proofs::CaseLemmas::next_profile))]
-fn add_member_wide(
-    alloc: Global,
-    repo: &Repo,
-    index: &Index,
-    member: &Member,
-    wide: &mut BTreeSet<Subject>,
-) -> Result<(), NoMemory>
-    ensures { OnOk result (wide.new.keys ≡ fold (insert_key subject_cmp) wide.old.keys (flat_map wide_of (cases_of (pkgs_of repo.now.members) repo.now.profiles member.now))) }
-{
-    for profile in repo.profiles.items() {
-        add_profile_wide(alloc, repo, index, member, profile, wide)?;
-    }
-    Ok(())
-}
-
-#[tactic(auto, using(crate::proofs::CaseLemmas::next_member))]
-fn wide_of(alloc: Global, repo: &Repo, index: &Index) -> Result<BTreeSet<Subject>, NoMemory>
-    ensures { IfOk result (λ wide. wide.keys ≡ fold (insert_key subject_cmp) [] (wide_subjects repo.now)) }
-{
-    let mut wide = BTreeSet::new(alloc);
-    for member in repo.members.items() {
-        add_member_wide(alloc, repo, index, member, &mut wide)?;
-    }
-    Ok(wide)
-}
-
-// CATEGORY/PF of the first package that has a query of too many flags.
-fn first_wide(alloc: Global, repo: &Repo, index: &Index) -> Result<Option<Text>, NoMemory>
-    ensures { IfOk result (λ place. place ≡ first_wide repo.now) }
-{
-    let wide = wide_of(alloc, repo, index)?;
-    match wide.first() {
-        Some(subject) => {
-            let mut place = Text::of(alloc, b"")?;
-            subject.append_to(&mut place)?;
-            Ok(Some(place))
-        }
-        None => Ok(None),
-    }
 }
 
 fn lines_of(alloc: Global, reports: &BTreeSet<Report>) -> Result<Text, NoMemory>
@@ -183,15 +144,18 @@ fn lines_of(alloc: Global, reports: &BTreeSet<Report>) -> Result<Text, NoMemory>
 }
 
 /// The lines of the reports of a repository, in their order. It is judged only where no query has more than 12 flags.
+/// Packages are numbered by 32 bits, and more of them find no memory.
 pub fn report_text(alloc: Global, repo: &Repo) -> Result<Text, JudgeFault>
     ensures text { IfOk result (λ text. text ≡ scan_text repo.now) }
     ensures narrow { IfOk result (λ text. first_wide repo.now ≡ None) }
     ensures wide { IfErr result (IsWide repo.now) }
 {
-    let index = index_of(alloc, repo.members.items())?;
-    if let Some(place) = first_wide(alloc, repo, &index)? {
+    if let Some(place) = first_wide(alloc, repo)? {
         return Err(JudgeFault::Wide { place });
     }
-    let reports = reports_of(alloc, repo, &index)?;
+    if repo.pkgs.items().len() > u32::MAX as usize {
+        return Err(JudgeFault::NoMemory);
+    }
+    let reports = reports_of(alloc, repo)?;
     Ok(lines_of(alloc, &reports)?)
 }

@@ -9,7 +9,7 @@ ghost use Rattle.gvis.specs.LoadCauses.{Cause, Passes, LoadCause};
 ghost use Rattle.gvis.specs.Desc.{counted_lines};
 ghost use Rattle.gvis.specs.ProfileFiles.{categories_in};
 ghost use Rattle.gvis.specs.Reading.{layout, first_of, list_steps, line_steps, category_steps, desc_lines, categories, first_refusal};
-ghost use Rattle.gvis.specs.Repository.{profile_of, members_of, repo_of};
+ghost use Rattle.gvis.specs.Repository.{profile_of, members_of, repo_of, repo_with};
 
 use crate::desc::{DescLines, counted_lines};
 use crate::entries::read_members;
@@ -82,10 +82,7 @@ fn read_both<T: Tree>(
 ) -> Result<Repo, LoadFault>
     requires knows { Knows (T.files tree.old) reader.old }
     requires names { names.now ≡ layout }
-    ensures repo { IfOk result (λ repo. IsTold (T.files tree.old) → repo ≡ record {
-      members = flat_map (members_of (look_in (T.files tree.old))) lists.now.categories;
-      profiles = filter_map (profile_of (look_in (T.files tree.old))) lists.now.lines;
-    }) }
+    ensures repo { IfOk result (λ repo. IsTold (T.files tree.old) → repo ≡ repo_with (flat_map (members_of (look_in (T.files tree.old))) lists.now.categories) (filter_map (profile_of (look_in (T.files tree.old))) lists.now.lines)) }
     ensures passed { OnOk result (Passes (T.files tree.old) (first_of (look_in (T.files tree.old))
         (flat_map (line_steps (look_in (T.files tree.old))) lists.now.lines ++ flat_map (category_steps (look_in (T.files tree.old))) lists.now.categories))) }
     ensures cause { IfErr result (Cause (T.files tree.old) (T.faults tree.old) (T.faults tree.new) (first_of (look_in (T.files tree.old))
@@ -99,7 +96,7 @@ fn read_both<T: Tree>(
         Err(fault) => return Err(fault),
     };
     match read_members(alloc, reader, tree, names, &lists.categories) {
-        Ok(members) => Ok(Repo { members, profiles }),
+        Ok(members) => Ok(members.with_profiles(profiles)),
         Err(fault) => Err(fault),
     }
 }

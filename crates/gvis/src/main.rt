@@ -3,18 +3,14 @@
 
 ghost use Rattle.std.specs.Prelude.{◌≡◌};
 
+mod assignment;
+mod classes;
 mod desc;
 mod directories;
 mod entries;
-mod entry;
-mod entry_names;
-#[cfg(test)]
-mod entry_tests;
-mod facts;
 mod faults;
-mod flags;
 mod holds;
-mod index;
+mod items;
 mod judged;
 mod judging;
 mod laws;
@@ -22,28 +18,34 @@ mod layout;
 mod least;
 mod lines;
 mod loading;
+mod meeting;
 mod output;
 mod paths;
+mod pf;
 mod profile_files;
 mod profiles;
 mod queries;
 mod reader;
 mod real;
 mod refusal;
+#[cfg(test)]
+mod refusal_tests;
+mod repo;
 mod report;
+#[cfg(test)]
+mod report_tests;
 mod reporting;
+mod required;
+#[cfg(test)]
+mod run_script;
 mod running;
 mod scanning;
 mod telling;
-mod values;
+mod use_asked;
+mod wide;
 mod words;
 
 pub use desc::{DescLine, DescLines};
-pub use entry::{EntryRead, read_entry};
-pub use facts::{
-    Body, Class, Eapi, FlagState, Level, Member, Members, Pkg, Profile, Profiles, Repo, Rule,
-    Rules, Status,
-};
 pub use faults::LoadFault;
 use gv_base::{Ledger, NoMemory, Steps, Text, Texts};
 pub use judging::{JudgeFault, report_text};
@@ -51,6 +53,7 @@ pub use laws::{least_of_all_assignments, reports_in_order};
 pub use loading::load;
 use real::{FsStore, FsTree, StdSink, StdSource};
 pub use refusal::Refusal;
+pub use repo::{Bodies, Member, Members, Repo};
 pub use report::{ContextName, Keyword, Report, Subject};
 pub use running::run;
 use std::alloc::Global;
@@ -99,6 +102,3 @@ fn run_counted<L: Ledger>(rt: HostRuntime, blank: Blank) -> u8
 fn main(rt: HostRuntime) -> ExitCode {
     ExitCode::from(run_counted::<Brand>(rt, Blank::new(2)))
 }
-
-#[cfg(test)]
-mod tests;

@@ -3,11 +3,11 @@
 //! Each call costs O(bytes); categories are sorted besides.
 ghost use Rattle.std.specs.Prelude.{◌≡◌, IfOk, Some, None, if◌then◌else◌};
 ghost use Rattle.gv_version.specs.Names.{is_flag};
-ghost use Rattle.gvis.specs.ProfileFiles.{category_in, categories_in, rule_of, rule_in, rules_in, is_eapi, is_good_eapi};
+ghost use Rattle.gvis.specs.ProfileFiles.{category_in, categories_in, masking, rule_of, rule_in, rules_in, is_eapi, is_good_eapi};
 
 use crate::lines::line_words;
-use crate::{Rule, Rules};
 use gv_base::{Cut, NoMemory, Text, Texts, next_piece};
+use gv_facts::{Effect, Rule, Rules};
 use gv_version::{is_category, is_flag};
 use std::alloc::Global;
 
@@ -43,13 +43,19 @@ pub(crate) fn categories_in(alloc: Global, bytes: &[u8]) -> Result<Texts, NoMemo
 }
 
 fn rule(alloc: Global, flag: &[u8], on: bool) -> Result<Option<Rule>, NoMemory>
-    ensures { IfOk result (λ rule. rule ≡ (if is_flag flag.now then Some (record { flag = flag.now; on = on }) else None)) }
+    ensures { IfOk result (λ rule. rule ≡ (if is_flag flag.now then Some (masking flag.now on) else None)) }
 {
     if !is_flag(flag) {
         return Ok(None);
     }
     let flag = Text::of(alloc, flag)?;
-    Ok(Some(Rule { flag, on }))
+    Ok(Some(Rule {
+        effect: Effect::Mask,
+        stable: false,
+        atom: None,
+        flag,
+        on,
+    }))
 }
 
 fn rule_of(alloc: Global, word: &[u8]) -> Result<Option<Rule>, NoMemory>

@@ -9,13 +9,14 @@ ghost use Rattle.gvis.specs.Paths.{resolved};
 ghost use Rattle.gvis.specs.Reading.{layout, first_of, line_steps};
 ghost use Rattle.gvis.specs.Repository.{rules_at, with_rules, profile_of};
 
+use crate::LoadFault;
 use crate::desc::{DescLine, DescLines};
 use crate::directories::read_directory;
 use crate::layout::Layout;
 use crate::paths::resolve;
 use crate::reader::Reader;
-use crate::{LoadFault, Profile, Profiles, Rules};
-use gv_base::{NoMemory, Tree};
+use gv_base::{NoMemory, Texts, Tree};
+use gv_facts::{Masks, Profile, Profiles, Rules, ValueLists};
 use std::alloc::Global;
 
 // The rules of a line's directory, none where it can't be judged.
@@ -61,6 +62,12 @@ fn add_profile(
                 arch: line.arch.copy(alloc)?,
                 path: line.path.copy(alloc)?,
                 status: line.status,
+                iuse_implicit: Texts::new(alloc),
+                expand: Texts::new(alloc),
+                expand_implicit: Texts::new(alloc),
+                unprefixed: Texts::new(alloc),
+                values: ValueLists::new(alloc),
+                masks: Masks::new(alloc),
                 rules,
             })?;
             Ok(())

@@ -23,13 +23,14 @@ pub struct Reader {
 }
 
 impl Model for Reader {
-    ghost use Rattle.gvis.specs.Known.{Known, coded_known, known_of};
+    ghost use Rattle.gv_base.specs.ByteMap.{map_of};
+    ghost use Rattle.gvis.specs.Known.{Known, coded_known};
 
     ghost Value = { Known };
 
     ghost coded = { coded_known };
 
-    ghost view = { λ r. known_of r.known.entries };
+    ghost view = { λ r. map_of r.known.entries };
 }
 
 impl Reader {

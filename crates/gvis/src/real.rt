@@ -2,7 +2,7 @@
 //! contracts; how often they failed is.
 //!
 //! A call costs the system's calls; a file that is read is copied once.
-ghost use Rattle.std.specs.Prelude.{◌≤◌, ◌<◌, ◌^◌, length, IfOk, None};
+ghost use Rattle.std.specs.Prelude.{◌≡◌, ◌≤◌, ◌<◌, ◌^◌, length, IfOk, None};
 ghost use Rattle.gv_base.specs.Outside.{HasAtMost};
 
 use gv_base::{
@@ -44,7 +44,12 @@ pub struct StdSink<W: Write + Drop> {
 }
 
 impl<R: Files + AllocGlobal + Clone + Drop> FsTree<R> {
-    pub fn new(rt: R, root: Text) -> Self {
+    /// The folder, which has not failed yet.
+    pub fn new(rt: R, root: Text) -> Self
+        ensures rt { result.rt ≡ rt }
+        ensures root { result.root ≡ root }
+        ensures faults { result.faults ≡ 0 }
+    {
         FsTree {
             rt,
             root,
@@ -54,19 +59,31 @@ impl<R: Files + AllocGlobal + Clone + Drop> FsTree<R> {
 }
 
 impl<R: Files + Drop> FsStore<R> {
-    pub fn new(rt: R) -> Self {
+    /// All files, none of which has failed yet.
+    pub fn new(rt: R) -> Self
+        ensures rt { result.rt ≡ rt }
+        ensures faults { result.faults ≡ 0 }
+    {
         FsStore { rt, faults: 0 }
     }
 }
 
 impl<R: Read + Drop> StdSource<R> {
-    pub fn new(reader: R) -> Self {
+    /// The reader, which has not failed yet.
+    pub fn new(reader: R) -> Self
+        ensures reader { result.reader ≡ reader }
+        ensures faults { result.faults ≡ 0 }
+    {
         StdSource { reader, faults: 0 }
     }
 }
 
 impl<W: Write + Drop> StdSink<W> {
-    pub fn new(writer: W) -> Self {
+    /// The writer, which has not failed yet.
+    pub fn new(writer: W) -> Self
+        ensures writer { result.writer ≡ writer }
+        ensures faults { result.faults ≡ 0 }
+    {
         StdSink { writer, faults: 0 }
     }
 }

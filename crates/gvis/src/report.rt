@@ -1,11 +1,12 @@
 //! Reports, their order and their lines. A comparison and a line cost O(the report's bytes).
 ghost use Rattle.std.specs.Prelude.{◌≡◌, ◌++◌, codes, OnOk};
-ghost use Rattle.gvis.specs.Classes.{class_text};
+ghost use Rattle.gv_facts.specs.Classes.{class_text};
 ghost use Rattle.gvis.specs.ReportOrder.{answer_cmp, class_number, context_cmp, keyword_number, level_number, query_cmp, report_cmp, subject_cmp};
 ghost use Rattle.gvis.specs.ReportText.{context_text, head_text, keyword_text, level_text, report_line, subject_text, tail_text, use_text};
 
-use crate::{Class, Level};
 use gv_base::{NoMemory, Text};
+use gv_facts::{Class, Level, class_text};
+use gv_version::{Version, compare};
 use std::cmp::Ordering;
 
 /// The three keywords of a class that can't be met, one for each status of a profile.
@@ -21,7 +22,7 @@ pub enum Keyword {
 pub struct Subject {
     pub category: Text,
     pub name: Text,
-    pub version: u64,
+    pub version: Version,
     pub pf: Text,
 }
 
@@ -62,6 +63,7 @@ fn class_number(class: Class) -> u8
     ensures { result ≡ class_number class }
 {
     match class {
+        Class::Required => 1,
         Class::Depend => 2,
         Class::Bdepend => 3,
         Class::Rdepend => 4,
@@ -86,7 +88,7 @@ impl Subject {
         self.category
             .cmp(&other.category)
             .then(self.name.cmp(&other.name))
-            .then(self.version.cmp(&other.version))
+            .then(compare(&self.version, &other.version))
             .then(self.pf.cmp(&other.pf))
     }
 }
@@ -127,9 +129,14 @@ impl Report {
         ensures { result ≡ answer_cmp self.now other.now }
     {
         let context = self.context.compare(&other.context);
+        let text = self
+            .subject
+            .version
+            .text()
+            .cmp(other.subject.version.text());
         self.detail
             .cmp(&other.detail)
-            .then(self.witness.cmp(&other.witness).then(context))
+            .then(self.witness.cmp(&other.witness).then(context.then(text)))
     }
 }
 
@@ -254,18 +261,6 @@ fn keyword_text(keyword: Keyword) -> &'static [u8]
         Keyword::NonsolvableDepsInStable => b"NonsolvableDepsInStable",
         Keyword::NonsolvableDepsInDev => b"NonsolvableDepsInDev",
         Keyword::NonsolvableDepsInExp => b"NonsolvableDepsInExp",
-    }
-}
-
-fn class_text(class: Class) -> &'static [u8]
-    ensures { result.now ≡ class_text class }
-{
-    match class {
-        Class::Depend => b"DEPEND",
-        Class::Bdepend => b"BDEPEND",
-        Class::Rdepend => b"RDEPEND",
-        Class::Pdepend => b"PDEPEND",
-        Class::Idepend => b"IDEPEND",
     }
 }
 

@@ -1,25 +1,40 @@
-//! The reports of a judged package: for each class of its EAPI that fails, the least assignment under which it does.
+//! The reports of a judged package: for each query that fails, the least assignment under which it does.
 ghost use Rattle.std.specs.Prelude.{◌≡◌, ◌++◌, [], codes, if◌then◌else◌, option_map, unwrap_or, fold, filter_map, IfOk, OnOk};
 ghost use Rattle.std.specs.BTreeSet.{insert_key};
 ghost use Rattle.gv_base.specs.Words.{joined};
 ghost use Rattle.gv_expr.specs.DepGrammar.{item_text};
-ghost use Rattle.gvis.specs.Allowed.{assignment, first_failing};
-ghost use Rattle.gvis.specs.Judged.{case_of, IsIndexed};
-ghost use Rattle.gvis.specs.Queries.{flags_of};
+ghost use Rattle.gv_entry.specs.Allowed.{first_failing};
+ghost use Rattle.gv_visible.specs.Told.{test_of};
+ghost use Rattle.gvis.specs.Judged.{AreAround, case_of, on_of, parent_of};
+ghost use Rattle.gvis.specs.Queries.{class_of, flags_of};
 ghost use Rattle.gvis.specs.ReportOrder.{report_cmp};
 ghost use Rattle.gvis.specs.RepoReports.{case_reports, context_of, nonsolvable, query_keyword, query_report, subject_of, witness_words};
 
-use crate::entry::has_class;
-use crate::holds::{Assignment, first_failing};
+use crate::assignment::Assignment;
+use crate::classes::classes;
+use crate::holds::first_failing;
 use crate::judged::Judged;
 use crate::least::least_failing;
-use crate::queries::{class_in, classes, flags_of};
+use crate::queries::{Query, flags_of, query_of};
 use crate::report::{ContextName, Keyword, Report, Subject};
-use crate::{Class, Pkg, Status};
 use gv_base::{NoMemory, Text, Texts};
 use gv_expr::{DepExpr, print_item};
+use gv_facts::{Class, Pkg, Status};
+use gv_version::{Version, VersionFault, read_version};
+use gv_visible::Candidates;
 use std::alloc::Global;
 use std::collections::BTreeSet;
+
+// The same version once more: its text is read again.
+fn copy_version(alloc: Global, version: &Version) -> Result<Version, NoMemory>
+    ensures { IfOk result (λ copied. copied ≡ version.now) }
+{
+    match read_version(alloc, version.text()) {
+        Ok(version) => Ok(version),
+        Err(VersionFault::NoMemory) => Err(NoMemory),
+        Err(_) => unreachable!(),
+    }
+}
 
 /// The package as the subject of a report.
 pub fn subject_of(alloc: Global, pkg: &Pkg) -> Result<Subject, NoMemory>
@@ -28,13 +43,13 @@ pub fn subject_of(alloc: Global, pkg: &Pkg) -> Result<Subject, NoMemory>
     Ok(Subject {
         category: pkg.category.copy(alloc)?,
         name: pkg.name.copy(alloc)?,
-        version: pkg.version,
+        version: copy_version(alloc, &pkg.version)?,
         pf: pkg.pf.copy(alloc)?,
     })
 }
 
 fn context_of(alloc: Global, judged: &Judged<'_>) -> Result<ContextName, NoMemory>
-    ensures { IfOk result (λ context. context ≡ context_of (case_of judged.now).parent) }
+    ensures { IfOk result (λ context. context ≡ context_of (parent_of judged.now)) }
 {
     Ok(ContextName {
         line: judged.profile.line,
@@ -89,16 +104,16 @@ fn witness_of(alloc: Global, flags: &[Text], bits: &[bool]) -> Result<Text, NoMe
 
 // The first top item of the class that doesn't hold. An item's number fits 32 bits in every class that is read; where
 // one doesn't, memory is said to be wanting.
-fn detail_of(
+fn detail_of<F: Fn(&Pkg) -> bool>(
     alloc: Global,
-    judged: &Judged<'_>,
+    candidates: &Candidates<'_, F>,
     class: &DepExpr,
     on: &Assignment<'_>,
 ) -> Result<Text, NoMemory>
-    requires { IsIndexed judged.now }
-    ensures { IfOk result (λ text. text ≡ unwrap_or (option_map item_text (first_failing (case_of judged.now).parent class.now (assignment on.now.flags.now on.now.bits.now))) []) }
+    requires { AreAround (F.pre (test_of candidates.now)) (F.post (test_of candidates.now)) candidates.now on.now.judged.now }
+    ensures { IfOk result (λ text. text ≡ unwrap_or (option_map item_text (first_failing (parent_of on.now.judged.now) class.now (on_of on.now))) []) }
 {
-    match first_failing(alloc, judged, class, on)? {
+    match first_failing(class, candidates, on) {
         Some(n) => match u32::try_from(n) {
             Ok(n) => print_item(alloc, class, n),
             Err(_) => Err(NoMemory),
@@ -107,65 +122,69 @@ fn detail_of(
     }
 }
 
-fn nonsolvable(
+fn nonsolvable<F: Fn(&Pkg) -> bool>(
     alloc: Global,
+    candidates: &Candidates<'_, F>,
     judged: &Judged<'_>,
     class: Class,
+    query: &Query<'_>,
     flags: &Texts,
     bits: &[bool],
 ) -> Result<Report, NoMemory>
-    requires indexed { IsIndexed judged.now }
+    requires around { AreAround (F.pre (test_of candidates.now)) (F.post (test_of candidates.now)) candidates.now judged.now }
+    requires query { query.now.class.now ≡ class_of (case_of judged.now) class }
     requires flags { flags.now ≡ flags_of (case_of judged.now) class }
     ensures { IfOk result (λ report. report ≡ nonsolvable (case_of judged.now) class bits.now) }
 {
     let on = Assignment {
+        judged,
         flags: flags.items(),
         bits,
     };
     Ok(Report {
-        subject: subject_of(alloc, &judged.member.pkg)?,
+        subject: subject_of(alloc, judged.pkg)?,
         keyword: query_keyword(judged.profile.status),
         class,
         context: context_of(alloc, judged)?,
         witness: witness_of(alloc, flags.items(), bits)?,
-        detail: detail_of(alloc, judged, class_in(&judged.member.body, class), &on)?,
+        detail: detail_of(alloc, candidates, query.class, &on)?,
     })
 }
 
-fn query_report(
+fn query_report<F: Fn(&Pkg) -> bool>(
     alloc: Global,
+    candidates: &Candidates<'_, F>,
     judged: &Judged<'_>,
     class: Class,
 ) -> Result<Option<Report>, NoMemory>
-    requires { IsIndexed judged.now }
+    requires { AreAround (F.pre (test_of candidates.now)) (F.post (test_of candidates.now)) candidates.now judged.now }
     ensures { IfOk result (λ report. report ≡ query_report (case_of judged.now) class) }
 {
-    if !has_class(judged.member.pkg.eapi, class) {
+    let Some(query) = query_of(judged, class) else {
         return Ok(None);
-    }
-    let flags = flags_of(alloc, judged, class)?;
-    match least_failing(
-        alloc,
-        judged,
-        class_in(&judged.member.body, class),
-        flags.items(),
-    )? {
-        Some(bits) => Ok(Some(nonsolvable(alloc, judged, class, &flags, &bits)?)),
+    };
+    let flags = flags_of(alloc, judged, &query)?;
+    match least_failing(alloc, candidates, judged, &query, flags.items())? {
+        Some(bits) => {
+            let report = nonsolvable(alloc, candidates, judged, class, &query, &flags, &bits)?;
+            Ok(Some(report))
+        }
         None => Ok(None),
     }
 }
 
-fn add_reports(
+fn add_reports<F: Fn(&Pkg) -> bool>(
     alloc: Global,
+    candidates: &Candidates<'_, F>,
     judged: &Judged<'_>,
     classes: &[Class],
     reports: &mut BTreeSet<Report>,
 ) -> Result<(), NoMemory>
-    requires { IsIndexed judged.now }
+    requires { AreAround (F.pre (test_of candidates.now)) (F.post (test_of candidates.now)) candidates.now judged.now }
     ensures { OnOk result (reports.new.keys ≡ fold (insert_key report_cmp) reports.old.keys (filter_map (query_report (case_of judged.now)) classes.now)) }
 {
     for class in classes {
-        if let Some(report) = query_report(alloc, judged, *class)? {
+        if let Some(report) = query_report(alloc, candidates, judged, *class)? {
             reports.insert(report)?;
         }
     }
@@ -173,13 +192,14 @@ fn add_reports(
 }
 
 /// Adds the reports of a judged package.
-pub fn add_case_reports(
+pub fn add_case_reports<F: Fn(&Pkg) -> bool>(
     alloc: Global,
+    candidates: &Candidates<'_, F>,
     judged: &Judged<'_>,
     reports: &mut BTreeSet<Report>,
 ) -> Result<(), NoMemory>
-    requires { IsIndexed judged.now }
+    requires { AreAround (F.pre (test_of candidates.now)) (F.post (test_of candidates.now)) candidates.now judged.now }
     ensures { OnOk result (reports.new.keys ≡ fold (insert_key report_cmp) reports.old.keys (case_reports (case_of judged.now))) }
 {
-    add_reports(alloc, judged, &classes(), reports)
+    add_reports(alloc, candidates, judged, &classes(), reports)
 }

@@ -1,4 +1,4 @@
-use Rattle.std.proofs.Common.{◌≡◌, ◌∷◌, List, ℕ, drop, refl, ◌∙◌, ◌+◌, arith}
+use Rattle.std.proofs.Common.{◌≡◌, ◌∷◌, drop, refl, ◌∙◌, ◌+◌, arith}
 use Rattle.std.specs.Prelude.{flat_map}
 use Rattle.gvis.specs.Look.{look_in}
 use Rattle.gvis.specs.Reading.{category_steps}

@@ -1,7 +1,7 @@
-use Rattle.std.proofs.Common.{◌≡◌, ◌∷◌, [], List, ℕ, None, drop, map, refl, ◌∙◌, ◌+◌, ◌++◌, arith}
+use Rattle.std.proofs.Common.{◌≡◌, ◌∷◌, [], None, drop, map, refl, ◌∙◌, ◌+◌, arith}
 use Rattle.std.specs.Prelude.{filter_map, option_to_list}
 use Rattle.gvis.specs.Look.{look_in}
-use Rattle.gvis.specs.Reading.{Step, refused, entry}
+use Rattle.gvis.specs.Reading.{refused, entry}
 use Rattle.gvis.specs.Repository.{member_of}
 use Rattle.gvis.proofs.Passing.{next_item, next_passed, more_values, filter_map-cons, both_pass}
 use Rattle.gvis.proofs.entries.read_names.Goals as goal

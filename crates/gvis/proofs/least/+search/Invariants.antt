@@ -1,4 +1,4 @@
 use Rattle.gvis.proofs.least.+search.Given as goal
 
 abbrev pub decreases-search : goal.decreases-search
-decreases-search l = l.n
+decreases-search g l = l.n

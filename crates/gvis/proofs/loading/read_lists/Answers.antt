@@ -1,7 +1,7 @@
-use Rattle.std.proofs.Common.{◌≡◌, ◌∷◌, [], None, refl}
+use Rattle.std.proofs.Common.{◌∷◌, [], None}
 use Rattle.gvis.specs.Look.{look_in}
 use Rattle.gvis.specs.Reading.{layout, refused, first_of, need, absent}
-use Rattle.gvis.proofs.Passing.{first_cause, later_cause, both_pass}
+use Rattle.gvis.proofs.Passing.{first_cause, later_cause}
 use Rattle.gvis.proofs.loading.read_lists.Goals as goal
 
 pub returns-in-Err-clause-cause : goal.returns-in-Err-clause-cause

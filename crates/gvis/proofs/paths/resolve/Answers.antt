@@ -1,7 +1,7 @@
-use Rattle.std.proofs.Common.{◌≡◌, Some, None, ◌∙◌, refl}
+use Rattle.std.proofs.Common.{◌∙◌, refl}
 use Rattle.gv_base.specs.declared.pieces.Cut.TheVariants.{Parts}
 use Rattle.gv_base.specs.Pieces.{left}
-use Rattle.gvis.specs.Paths.{place_after, resolved}
+use Rattle.gvis.specs.Paths.{resolved}
 use Rattle.gvis.proofs.PathLemmas.{gone}
 use Rattle.gvis.proofs.paths.resolve.Goals as goal
 

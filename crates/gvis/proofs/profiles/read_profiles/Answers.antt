@@ -1,6 +1,5 @@
-use Rattle.std.proofs.Common.{◌≡◌, ◌∷◌, List, ℕ, drop, refl, ◌∙◌, ◌+◌, arith}
+use Rattle.std.proofs.Common.{◌≡◌, ◌∷◌, drop, refl, ◌∙◌, ◌+◌, arith}
 use Rattle.std.specs.Prelude.{filter_map, flat_map, option_to_list}
-use Rattle.gvis.specs.declared.desc.DescLine.{DescLine}
 use Rattle.gvis.specs.Look.{look_in}
 use Rattle.gvis.specs.Reading.{line_steps}
 use Rattle.gvis.specs.Repository.{profile_of}

@@ -1,0 +1,213 @@
+//! Runs over the outside in memory, each written as a few lines of text.
+ghost use Rattle.std.specs.Prelude.{◌≡◌};
+
+use crate::run;
+use gv_base::{
+    Calls, Cut, Files, Ledger, MemSink, MemSource, MemStore, MemTree, Steps, Text, Texts,
+    next_piece,
+};
+use std::alloc::Global;
+use std::marker::Brand;
+use std::process::Abort;
+use std::sync::ledger::Blank;
+
+// What the lines before a run say. `@PATH` begins a file and each `|` behind it is a line of it; `new` takes all files
+// away. `$` has the words, with one space between; without it they are `scan R --certs C`. `m`, `t`, `o` and
+// `e` give the bytes that a sink takes in a call and the numbers of the calls that fail. `>` is a line that stands on
+// out and `!` one on err; `~` at its end says that it has no line feed. `= STATUS` runs, and forgets all
+// but the files.
+#[derive(Drop)]
+pub(crate) struct Script {
+    pub files: Files,
+    path: Text,
+    words: Text,
+    most: u32,
+    tree_fails: u32,
+    out_fails: u32,
+    err_fails: u32,
+    pub out: Text,
+    pub err: Text,
+}
+
+pub(crate) fn text<R: Abort>(rt: &R, alloc: Global, bytes: &[u8]) -> Text {
+    Text::of(alloc, bytes).expect(rt, "memory")
+}
+
+pub(crate) fn append<R: Abort>(rt: &R, text: &mut Text, bytes: &[u8]) {
+    text.append(bytes).expect(rt, "memory");
+}
+
+pub(crate) fn put<R: Abort>(rt: &R, files: &mut Files, path: &[u8], bytes: &[u8]) {
+    files.put(path, bytes).expect(rt, "memory");
+}
+
+fn same<R: Abort>(rt: &R, got: &[u8], want: &[u8]) {
+    assert_eq!(rt; got, want);
+}
+
+pub(crate) fn begin<R: Abort>(rt: &R, alloc: Global) -> Script {
+    Script {
+        files: Files::new(alloc),
+        path: text(rt, alloc, b""),
+        words: text(rt, alloc, b"scan R --certs C"),
+        most: 4096,
+        tree_fails: 0,
+        out_fails: 0,
+        err_fails: 0,
+        out: text(rt, alloc, b""),
+        err: text(rt, alloc, b""),
+    }
+}
+
+// All but the files.
+fn forget<R: Abort>(rt: &R, alloc: Global, script: &mut Script) {
+    script.path = text(rt, alloc, b"");
+    script.words = text(rt, alloc, b"scan R --certs C");
+    script.most = 4096;
+    script.tree_fails = 0;
+    script.out_fails = 0;
+    script.err_fails = 0;
+    script.out = text(rt, alloc, b"");
+    script.err = text(rt, alloc, b"");
+}
+
+fn number(digits: &[u8]) -> u32 {
+    let mut number: u32 = 0;
+    for d in digits {
+        number = number
+            .saturating_mul(10)
+            .saturating_add(d.saturating_sub(b'0') as u32);
+    }
+    number
+}
+
+pub(crate) fn add_line<R: Abort>(rt: &R, alloc: Global, script: &mut Script, line: &[u8]) {
+    let before = script
+        .files
+        .get(script.path.bytes())
+        .unwrap_or(b"".as_slice());
+    let mut bytes = text(rt, alloc, before);
+    append(rt, &mut bytes, line);
+    append(rt, &mut bytes, b"\n");
+    put(rt, &mut script.files, script.path.bytes(), bytes.bytes());
+}
+
+pub(crate) fn begin_file<R: Abort>(rt: &R, alloc: Global, script: &mut Script, path: &[u8]) {
+    script.path = text(rt, alloc, path);
+    put(rt, &mut script.files, path, b"");
+}
+
+fn add_output<R: Abort>(rt: &R, text: &mut Text, line: &[u8]) {
+    match line {
+        [front @ .., b'~'] => append(rt, text, front),
+        _ => {
+            append(rt, text, line);
+            append(rt, text, b"\n");
+        }
+    }
+}
+
+// Takes a line that says what a run has.
+fn take<R: Abort>(rt: &R, alloc: Global, script: &mut Script, line: &[u8]) {
+    match line {
+        [b'@', path @ ..] => begin_file(rt, alloc, script, path),
+        [b'|', rest @ ..] => add_line(rt, alloc, script, rest),
+        [b'$', b' ', rest @ ..] => script.words = text(rt, alloc, rest),
+        [b'>', b' ', rest @ ..] => add_output(rt, &mut script.out, rest),
+        [b'!', b' ', rest @ ..] => add_output(rt, &mut script.err, rest),
+        [b'm', b' ', digits @ ..] => script.most = number(digits),
+        [b't', b' ', digits @ ..] => script.tree_fails = number(digits),
+        [b'o', b' ', digits @ ..] => script.out_fails = number(digits),
+        [b'e', b' ', digits @ ..] => script.err_fails = number(digits),
+        _ => {}
+    }
+}
+
+fn calls<R: Abort>(rt: &R, alloc: Global, number: u32) -> Calls {
+    let mut calls = Calls::new(alloc);
+    if number != 0 {
+        calls.add(number).expect(rt, "memory");
+    }
+    calls
+}
+
+// The pieces between spaces, empty ones among them; no word where there is no byte.
+fn split<R: Abort>(rt: &R, alloc: Global, line: &[u8]) -> Texts {
+    let mut words = Texts::new(alloc);
+    let mut rest = if line.is_empty() { None } else { Some(line) };
+    for _ in 0..10 {
+        if let Some(word) = next_piece(&mut rest, Cut::Words) {
+            words.add(text(rt, alloc, word)).expect(rt, "memory");
+        }
+    }
+    words
+}
+
+fn tree_of<R: Abort>(rt: &R, alloc: Global, script: &Script) -> MemTree {
+    let files = script.files.copy(alloc).expect(rt, "memory");
+    MemTree::new(files, calls(rt, alloc, script.tree_fails))
+}
+
+fn sink_of<R: Abort>(rt: &R, alloc: Global, most: u32, fails: u32) -> MemSink {
+    MemSink::new(alloc, most.max(1), calls(rt, alloc, fails))
+}
+
+// Runs, and compares the status and what stands on out and on err.
+fn run_on<L: Ledger, R: Abort>(rt: &R, alloc: Global, blank: Blank, script: &Script, status: u32)
+    requires name { blank.name ≡ L.name }
+    requires parts { blank.parts ≡ L.parts }
+    requires two { blank.parts ≡ 2 }
+{
+    let words = split(rt, alloc, script.words.bytes());
+    let mut tree = tree_of(rt, alloc, script);
+    let mut store = MemStore::new(Files::new(alloc), Calls::new(alloc));
+    let mut input = MemSource::new(text(rt, alloc, b""), 1, Calls::new(alloc));
+    let mut out = sink_of(rt, alloc, script.most, script.out_fails);
+    let mut err = sink_of(rt, alloc, script.most, script.err_fails);
+    let mut steps = Steps::<L>::open(blank);
+    let got = run(
+        alloc, &words, &mut tree, &mut store, &mut input, &mut out, &mut err, &mut steps,
+    );
+    same(rt, err.held(), script.err.bytes());
+    same(rt, out.held(), script.out.bytes());
+    assert_eq!(rt; got as u32, status);
+}
+
+pub(crate) fn expect<R: Abort>(rt: &R, alloc: Global, script: &Script, status: u32) {
+    run_on::<Brand, R>(rt, alloc, Blank::new(2), script, status);
+}
+
+// Performs a line, and answers whether it was a run.
+fn performs<R: Abort>(rt: &R, alloc: Global, script: &mut Script, line: &[u8]) -> bool {
+    match line {
+        [b'=', b' ', digits @ ..] => {
+            expect(rt, alloc, script, number(digits));
+            forget(rt, alloc, script);
+            true
+        }
+        [b'n', b'e', b'w'] => {
+            script.files = Files::new(alloc);
+            forget(rt, alloc, script);
+            false
+        }
+        _ => {
+            take(rt, alloc, script, line);
+            false
+        }
+    }
+}
+
+// Performs the lines, of which there are these many runs.
+pub(crate) fn perform<R: Abort>(rt: &R, alloc: Global, lines: &[u8], want: u32) {
+    let mut script = begin(rt, alloc);
+    let mut runs: u32 = 0;
+    let mut rest = Some(lines);
+    for _ in 0..1000 {
+        if let Some(line) = next_piece(&mut rest, Cut::Lines) {
+            if performs(rt, alloc, &mut script, line) {
+                runs = runs.saturating_add(1);
+            }
+        }
+    }
+    assert_eq!(rt; runs, want);
+}

@@ -1,8 +1,0 @@
-# Distributed under the terms of the GNU General Public License v2
-
-EAPI=8
-
-DESCRIPTION="Regular expressions"
-
-SLOT="0"
-KEYWORDS="amd64"
