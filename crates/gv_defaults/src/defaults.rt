@@ -28,6 +28,18 @@ pub struct DefaultsRead {
     pub bad: Option<u32>,
 }
 
+impl DefaultsRead {
+    /// The same once more.
+    pub fn copy(&self, alloc: Global) -> Result<DefaultsRead, NoMemory>
+        ensures { IfOk result (λ read. read ≡ self.now) }
+    {
+        Ok(DefaultsRead {
+            vars: self.vars.copy(alloc)?,
+            bad: self.bad,
+        })
+    }
+}
+
 /// Reads the bytes of a make.defaults over the variables that were set before it (PMS chapter 5). The assignments before
 /// the first one that isn't of the form count, and nothing from there on does. Within the file the last assignment of a
 /// name counts; then each assigned name is folded, in byte order of names: the words of an incremental variable are taken

@@ -12,9 +12,9 @@ fn read_over(
     let unset = Vars::new(alloc);
     let first = read_defaults(alloc, before, &unset)?;
     let read = read_defaults(alloc, file, &first.vars)?;
-    let copy = read.vars.copy(alloc)?;
-    let words = copy.words(alloc, name)?;
-    Ok((words.joined(alloc, b'|')?, read.bad))
+    let copy = read.copy(alloc)?;
+    let words = copy.vars.words(alloc, name)?;
+    Ok((words.joined(alloc, b'|')?, copy.bad))
 }
 
 #[test]

@@ -86,6 +86,18 @@ impl Model for Step {
     ghost view = { λ s. record { clause = s.clause; hints = s.hints } };
 }
 
+impl Step {
+    /// The same step once more. O(literals and hints).
+    pub fn copy(&self, alloc: Global) -> Result<Step, NoMemory>
+        ensures { IfOk result (λ step. step ≡ self.now) }
+    {
+        Ok(Step {
+            clause: self.clause.copy(alloc)?,
+            hints: self.hints.copy(alloc)?,
+        })
+    }
+}
+
 /// Steps, numbered from 0. At most `2^32 - 1`.
 #[derive(Drop)]
 pub struct Log {
@@ -137,9 +149,7 @@ impl Log {
     {
         let mut log = Log::new(alloc);
         for step in self.items() {
-            let clause = step.clause.copy(alloc)?;
-            let hints = step.hints.copy(alloc)?;
-            log.add(Step { clause, hints })?;
+            log.add(step.copy(alloc)?)?;
         }
         Ok(log)
     }

@@ -1,6 +1,6 @@
 //! Sets of inputs, and lists of them.
 
-ghost use Rattle.std.specs.Prelude.{◌≡◌, List, ℕ, [], ◌∷◌, ◌++◌, OnOk, OnErr};
+ghost use Rattle.std.specs.Prelude.{◌≡◌, List, ℕ, [], ◌∷◌, ◌++◌, IfOk, OnOk, OnErr};
 
 use gv_base::NoMemory;
 use std::alloc::Global;
@@ -30,6 +30,15 @@ impl FlagSet {
         ensures { result.now ≡ self.now }
     {
         &self.items
+    }
+
+    /// The same set once more.
+    pub fn copy(&self, alloc: Global) -> Result<FlagSet, NoMemory>
+        ensures { IfOk result (λ set. set ≡ self.now) }
+    {
+        Ok(FlagSet {
+            items: self.items.to_vec(alloc)?,
+        })
     }
 }
 
@@ -68,5 +77,16 @@ impl FlagSets {
         ensures { result.now ≡ self.now }
     {
         &self.items
+    }
+
+    /// The same sets once more.
+    pub fn copy(&self, alloc: Global) -> Result<FlagSets, NoMemory>
+        ensures { IfOk result (λ sets. sets ≡ self.now) }
+    {
+        let mut sets = FlagSets::new(alloc);
+        for set in &self.items {
+            sets.add(set.copy(alloc)?)?;
+        }
+        Ok(sets)
     }
 }

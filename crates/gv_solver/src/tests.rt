@@ -156,6 +156,7 @@ fn worked_questions(rt: HostRuntime) -> Result<(), Fail> {
     }
     match solved::<Brand>(alloc, &eight_groups(alloc)?, 2, Blank::new(2))? {
         Answer::Spent { sets, .. } => {
+            let sets = sets.copy(alloc)?;
             let [first, second] = sets.items() else {
                 return Err("two sets are kept")?;
             };
