@@ -2,7 +2,7 @@
 //!
 //! `get`, `put` and `cut` cost O(log n) comparisons of paths for n files; `put` copies path and bytes once. The files
 //! below a path are found without going through the others.
-ghost use Rattle.std.specs.Prelude.{◌≡◌, List, ℕ, map, IfOk, OnOk, OnErr};
+ghost use Rattle.std.specs.Prelude.{◌≡◌, map, IfOk, OnOk, OnErr};
 ghost use Rattle.std.specs.FinMap as finite;
 ghost use Rattle.std.specs.Option.{option_copied};
 ghost use Rattle.gv_base.specs.ByteMap.{seen_entry};

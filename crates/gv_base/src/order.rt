@@ -1,7 +1,7 @@
 //! Texts in byte order.
 //!
 //! `has` goes through the list; `in_order` costs O(n log n) comparisons for n texts and copies each.
-ghost use Rattle.std.specs.Prelude.{◌≡◌, List, ℕ, IfOk};
+ghost use Rattle.std.specs.Prelude.{◌≡◌, IfOk};
 ghost use Rattle.gv_base.specs.Order.{has_text, in_order, HaveSameTexts, IsAscending};
 
 use crate::{NoMemory, Text, Texts};

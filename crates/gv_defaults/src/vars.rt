@@ -1,7 +1,7 @@
 //! Variables by name.
 //!
 //! `words` costs O(log n) comparisons of names for n variables and O(the bytes of the value), `copy` O(all bytes).
-ghost use Rattle.std.specs.Prelude.{◌≡◌, ◌++◌, List, ℕ, IfOk, OnOk, OnErr};
+ghost use Rattle.std.specs.Prelude.{◌≡◌, ◌++◌, IfOk, OnOk, OnErr};
 ghost use Rattle.std.specs.FinMap as finite;
 ghost use Rattle.std.specs.Option.{option_copied};
 ghost use Rattle.gv_defaults.specs.Settings.{text_of, words_of};

@@ -1,6 +1,6 @@
 //! The clauses of gates, gate by gate. Linear in gates and operands.
 
-ghost use Rattle.std.specs.Prelude.{◌≡◌, ◌+◌, ◌*◌, ◌<◌, ◌≤◌, ◌^◌, [], ◌∷◌, ◌++◌, length, map, IfOk, OnOk};
+ghost use Rattle.std.specs.Prelude.{◌≡◌, ◌+◌, ◌*◌, ◌<◌, ◌≤◌, ◌^◌, [], ◌∷◌, ◌++◌, map, IfOk, OnOk};
 ghost use Rattle.std.specs.List.{AllByRecursion};
 ghost use Rattle.gv_logic.specs.Literals.{opposite};
 ghost use Rattle.gv_logic.specs.declared.gates.Op.TheVariants.{And, Or};

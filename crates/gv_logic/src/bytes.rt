@@ -1,7 +1,6 @@
 //! The canonical bytes of gates: their key among queries. Linear in gates and operands.
 
-ghost use Rattle.std.specs.Prelude.{◌≡◌, ◌<◌, ◌^◌, ◌++◌, ◌∷◌, length, IfOk, OnOk};
-ghost use Rattle.gv_logic.specs.Circuits.{Gate};
+ghost use Rattle.std.specs.Prelude.{◌≡◌, ◌<◌, ◌^◌, ◌++◌, length, IfOk, OnOk};
 ghost use Rattle.gv_logic.specs.Bytes.{number_bytes, numbers_bytes, gate_bytes, circuit_bytes};
 
 use crate::{Gates, Lit, Op};

@@ -1,5 +1,5 @@
 -- Bits that aren't lesser, and steps that leave no lesser ones.
-use Rattle.std.proofs.Common.{◌≡◌, ◌↔◌, ◌⊎◌, inl, inr, ℕ, zero, suc, ◌+◌, ◌*◌, ◌/◌, ◌%◌, ◌<◌, ◌≤◌, Bool, true, false, not, ◌||◌, List, [], ◌∷◌, ◌++◌, length, get_or, take, refl, sym, subst, ap, ◌∙◌, arith}
+use Rattle.std.proofs.Common.{◌≡◌, ◌↔◌, ◌⊎◌, inl, inr, ℕ, zero, suc, ◌+◌, ◌*◌, ◌/◌, ◌%◌, ◌<◌, Bool, true, false, ◌||◌, List, [], ◌∷◌, ◌++◌, length, get_or, take, refl, sym, subst, ◌∙◌, arith}
 use Rattle.gv_logic.specs.Literals.{lit_true, clause_true, AllTrue}
 use Rattle.gv_logic.specs.Logs.{Step, step_clauses, set_clause, offs, least_set, ProvesLeast}
 use Rattle.gv_logic.specs.Least.{Lesser}

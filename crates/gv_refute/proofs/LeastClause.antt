@@ -1,7 +1,7 @@
 -- The clause that says of an input that it is least.
-use Rattle.std.proofs.Common.{◌≡◌, ℕ, zero, suc, ◌+◌, ◌*◌, ◌<◌, Bool, true, false, List, [], ◌∷◌, ◌++◌, length, get_or, take, refl, sym, ap, ◌∙◌, length-append, arith}
+use Rattle.std.proofs.Common.{◌≡◌, ℕ, ◌*◌, Bool, true, false, List, [], ◌∷◌, ◌++◌, length, get_or, take, refl, sym, ap, ◌∙◌, length-append, arith}
 use Rattle.std.specs.Prelude.{MatchBool}
-use Rattle.gv_logic.specs.Logs.{Step, HasList, step_clauses, set_clause, offs, least_set, ProvesLeast}
+use Rattle.gv_logic.specs.Logs.{set_clause, offs, least_set}
 
 set_end : (xs : List ℕ) (i : ℕ) → set_clause (xs ++ i ∷ []) ≡ set_clause xs ++ 2 * i ∷ []
 set_end [] i = refl

@@ -5,7 +5,7 @@ use Rattle.std.specs.Prelude.{slice_get, slice_set, replicate}
 use Rattle.std.proofs.lemmas.List.{length-replicate}
 use Rattle.std.proofs.lemmas.Grind.{common_steps}
 use Rattle.gv_logic.specs.Literals.{opposite}
-use Rattle.gv_logic.specs.Partial.{is_true, all_false, unit_after, is_other, Has}
+use Rattle.gv_logic.specs.Partial.{is_true, all_false, unit_after, Has}
 use Rattle.gv_logic.specs.Logs.{started, last_is_false, unit_of, made_true, and_then, refuted, follows}
 use Rattle.gv_refute.specs.Rules.{IsPlain, all_off, OneLeft, Refutes, Follows}
 

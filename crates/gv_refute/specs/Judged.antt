@@ -1,5 +1,5 @@
 -- What a verdict says of a log.
-use Rattle.std.specs.Prelude.{◌≡◌, ℕ, ◌*◌, Bool, true, false, List, Option, Some, None}
+use Rattle.std.specs.Prelude.{◌≡◌, ℕ, ◌*◌, Bool, true, false, List, Some, None}
 use Rattle.gv_logic.specs.Formulas.{Formula}
 use Rattle.gv_logic.specs.Logs.{Step, started, first_refused, IsValid}
 use Rattle.gv_refute.specs.declared.checker.Verdict.{Verdict}

@@ -10,9 +10,9 @@
 //! that it found last, so steps in the order of the inputs cost the length of the log and of the
 //! bits for each input that is on.
 
-ghost use Rattle.std.specs.Prelude.{◌≡◌, ◌↔◌, ◌+◌, ◌*◌, ◌<◌, ◌≤◌, ◌^◌, ◌++◌, [], true, false, None, length, take, drop, IsTrue, IfSome, MatchBool, MatchOption, slice_get, slice_set, slice_index_or, option_map, replicate};
+ghost use Rattle.std.specs.Prelude.{◌≡◌, ◌↔◌, ◌+◌, ◌*◌, ◌<◌, ◌≤◌, ◌^◌, ◌++◌, true, false, None, length, take, drop, IsTrue, IfSome, MatchBool, MatchOption, slice_get, slice_index_or, option_map, replicate};
 ghost use Rattle.gv_logic.specs.Partial.{is_true, all_false, unit_after};
-ghost use Rattle.gv_logic.specs.Logs.{Step as LogStep, started, refuted, follows, step_clauses, HasList, set_clause, offs, least_set, ProvesNone, ProvesLeast};
+ghost use Rattle.gv_logic.specs.Logs.{Step as LogStep, refuted, follows, step_clauses, HasList, set_clause, offs, least_set, ProvesNone, ProvesLeast};
 ghost use Rattle.gv_refute.specs.Judged.{Judges, Starts};
 
 use crate::{Log, Marks, Step};

@@ -2,7 +2,7 @@
 //! probe is two propagations, of which the first finds what level 0 asks for; dropping probes once
 //! for each member.
 
-ghost use Rattle.std.specs.Prelude.{◌≡◌, ◌+◌, ◌*◌, ◌<◌, ◌≤◌, ◌^◌, ◌∷◌, [], ℕ, true, false, IfOk, OnOk, length};
+ghost use Rattle.std.specs.Prelude.{◌≡◌, ◌+◌, ◌*◌, ◌<◌, ◌≤◌, ◌^◌, ◌∷◌, [], ℕ, true, false, IfOk, OnOk};
 ghost use Rattle.std.specs.List.{AllByRecursion};
 ghost use Rattle.gv_logic.specs.Kept.{AllOff, Clashes, IsRising};
 ghost use Rattle.gv_logic.specs.Logs.{follows, set_clause};

@@ -2,7 +2,6 @@
 //! O(length of the reasons that are looked at, and variables).
 
 ghost use Rattle.std.specs.Prelude.{◌≡◌, IfOk, slice_get};
-ghost use Rattle.gv_logic.specs.Partial.{is_true};
 ghost use Rattle.gv_trail.specs.Entries.{lits_of};
 ghost use Rattle.gv_solver.specs.Rests.{marked_against, against_clause, needed_at, needed_by, rests_by, rests_on, reasons};
 

@@ -1,10 +1,8 @@
 //! Rounds of the solver: a way down, and what is learned where it ends in a conflict.
 
-ghost use Rattle.std.specs.Prelude.{◌≡◌, ◌*◌, ◌<◌, IfOk, OnOk};
-ghost use Rattle.std.specs.List.{AllByRecursion};
+ghost use Rattle.std.specs.Prelude.{◌<◌, IfOk, OnOk};
 ghost use Rattle.gv_logic.specs.Formulas.{Formula};
 ghost use Rattle.gv_logic.specs.Kept.{IsRising};
-ghost use Rattle.gv_trail.specs.Derived.{IsTrail};
 ghost use Rattle.gv_trail.specs.Entries.{assignment};
 ghost use Rattle.gv_trail.specs.Told.{IsFalseAt};
 ghost use Rattle.gv_solver.specs.Search.{Ready, IsSearched};

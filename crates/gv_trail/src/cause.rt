@@ -1,6 +1,6 @@
 //! Why a variable is assigned, and how assignments are taken back.
 
-ghost use Rattle.std.specs.Prelude.{◌≡◌, ◌*◌, ◌/◌, ℕ, true, false, length, take, replicate, slice_set};
+ghost use Rattle.std.specs.Prelude.{◌≡◌, ◌*◌, ◌/◌, ℕ, false, length, take, replicate, slice_set};
 ghost use Rattle.gv_trail.specs.Causes.{cause_at, entries_of};
 ghost use Rattle.gv_trail.specs.Entries.{AreLevels, made_true, front_to};
 ghost use Rattle.gv_trail.specs.Marks.{AreFresh};

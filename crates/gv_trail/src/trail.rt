@@ -1,6 +1,6 @@
 //! The trail itself.
 
-ghost use Rattle.std.specs.Prelude.{◌≡◌, ◌+◌, ◌*◌, ◌<◌, ◌≤◌, ◌^◌, ◌++◌, ◌∷◌, [], true, false, None, length, take, IfOk, OnOk, OnErr, List, ℕ, Option};
+ghost use Rattle.std.specs.Prelude.{◌≡◌, ◌+◌, ◌*◌, ◌<◌, ◌≤◌, ◌^◌, ◌++◌, ◌∷◌, [], true, false, None, length, IfOk, OnOk, OnErr, Option};
 ghost use Rattle.gv_logic.specs.Literals.{opposite};
 ghost use Rattle.gv_logic.specs.Formulas.{Formula, InRange};
 ghost use Rattle.gv_logic.specs.Partial.{is_true};

@@ -1,7 +1,7 @@
 //! The effective flags as a list.
-ghost use Rattle.std.specs.Prelude.{◌≡◌, ◌++◌, [], map, if◌then◌else◌, IfOk, OnOk};
+ghost use Rattle.std.specs.Prelude.{◌≡◌, ◌++◌, map, IfOk, OnOk};
 ghost use Rattle.std.specs.Str.{str_to_ascii_lowercase};
-ghost use Rattle.gv_base.specs.Order.{has_text, HaveSameTexts, IsAscending};
+ghost use Rattle.gv_base.specs.Order.{HaveSameTexts, IsAscending};
 ghost use Rattle.gv_facts.specs.Effective.{effective, expand_flags, flag_sources, prefixed, unprefixed_flags, values_of};
 
 use gv_base::{NoMemory, Text, Texts};

@@ -1,7 +1,6 @@
 //! The state of a flag (PMS chapter 5).
-ghost use Rattle.std.specs.Prelude.{◌≡◌, ◌&&◌, ◌||◌, not, false, fold, slice_get};
-ghost use Rattle.std.specs.Option.{option_map_or};
-ghost use Rattle.gv_facts.specs.States.{has_effect, is_same, state};
+ghost use Rattle.std.specs.Prelude.{◌≡◌, ◌&&◌, ◌||◌, false, fold};
+ghost use Rattle.gv_facts.specs.States.{has_effect, state};
 ghost use Rattle.gv_usestate.specs.RulesInTurn.{counts, behind, behind_at};
 
 use crate::restricted::is_restricted;

@@ -1,7 +1,7 @@
 //! The lines of `profiles/profiles.desc` that count, each with its number.
 //!
 //! Reading costs O(bytes), and for each line a look-up in an ordered map of those before it.
-ghost use Rattle.std.specs.Prelude.{◌≡◌, ◌+◌, ◌++◌, ◌∷◌, ◌&&◌, [], map, IfOk, OnOk, OnErr};
+ghost use Rattle.std.specs.Prelude.{◌≡◌, ◌+◌, ◌++◌, ◌∷◌, [], map, IfOk, OnOk, OnErr};
 ghost use Rattle.std.specs.List.{list_any};
 ghost use Rattle.std.specs.Str.{bytes_eq};
 ghost use Rattle.gvis.specs.Lines.{line_words};

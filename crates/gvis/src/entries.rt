@@ -1,7 +1,7 @@
 //! Reads the entries of the cache, category by category, each with its PFs in byte order (PMS chapter 14).
 //!
 //! Costs a listing for each category, sorted, and O(bytes) for each entry. Entries aren't kept.
-ghost use Rattle.std.specs.Prelude.{◌≡◌, ◌≤◌, ◌++◌, ◌⊎◌, [], true, Some, None, IfOk, IfErr, OnOk, map, filter, filter_map, flat_map, option_to_list};
+ghost use Rattle.std.specs.Prelude.{◌≡◌, ◌≤◌, ◌++◌, ◌⊎◌, true, Some, None, IfOk, IfErr, OnOk, map, filter, filter_map, flat_map, option_to_list};
 ghost use Rattle.std.specs.List.{list_all};
 ghost use Rattle.gv_base.specs.Order.{in_order};
 ghost use Rattle.gvis.specs.Agreement.{Knows};

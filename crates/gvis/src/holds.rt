@@ -2,7 +2,7 @@
 //!
 //! O(its trees) steps, down at most 64 groups; without memory. An atom costs a look-up among the candidates, and a
 //! conditional one in the assignment.
-ghost use Rattle.std.specs.Prelude.{◌≡◌, [], ◌∷◌, ◌<◌, None, Some, length, slice_get};
+ghost use Rattle.std.specs.Prelude.{◌≡◌, ◌<◌, None, Some};
 ghost use Rattle.gv_expr.specs.Dep.{deps};
 ghost use Rattle.gv_expr.specs.DepView.{dep_of};
 ghost use Rattle.gv_facts.specs.AtomMet.{atom_met};

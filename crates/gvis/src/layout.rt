@@ -1,5 +1,5 @@
 //! The fixed names in a repository (PMS chapters 4 and 5).
-ghost use Rattle.std.specs.Prelude.{◌≡◌, ◌++◌, ◌∷◌, [], IfOk, OnOk, OnErr};
+ghost use Rattle.std.specs.Prelude.{◌≡◌, ◌++◌, ◌∷◌, [], IfOk, OnOk};
 ghost use Rattle.gvis.specs.Reading.{layout};
 
 use gv_base::{NoMemory, Text, Texts};

@@ -2,7 +2,7 @@
 //!
 //! For n flags at most 2^n trials, each O(the trees of REQUIRED_USE and of the class); the recursion is n deep. A query is
 //! tried only where it has at most 12 flags.
-ghost use Rattle.std.specs.Prelude.{◌≡◌, ◌+◌, false, Some, None, if◌then◌else◌, length, option_map, IfOk};
+ghost use Rattle.std.specs.Prelude.{◌≡◌, false, Some, None, if◌then◌else◌, length, option_map, IfOk};
 ghost use Rattle.gv_entry.specs.Allowed.{is_failing, required_holds};
 ghost use Rattle.gv_entry.specs.Least.{least, least_behind};
 ghost use Rattle.gv_visible.specs.Told.{test_of};

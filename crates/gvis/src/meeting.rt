@@ -1,10 +1,9 @@
 //! When an atom is met (PMS chapter 8): it is a blocker, or some visible package matches it and meets its USE items.
 //!
 //! Costs a look-up for each package that is found, up to the first that meets the items; without memory.
-ghost use Rattle.std.specs.Prelude.{◌≡◌, false};
+ghost use Rattle.std.specs.Prelude.{◌≡◌, false, slice_get};
 ghost use Rattle.std.specs.List.{list_any};
 ghost use Rattle.std.specs.Option.{option_map_or};
-ghost use Rattle.std.specs.Prelude.{slice_get};
 ghost use Rattle.gv_atom.specs.UseItems.{is_blocker};
 ghost use Rattle.gv_facts.specs.AtomMet.{atom_met, items_met, meets};
 ghost use Rattle.gv_facts.specs.States.{state};

@@ -9,9 +9,8 @@ ghost use Rattle.gv_expr.specs.Dep.{deps};
 ghost use Rattle.gv_expr.specs.Mentioned.{dep_mentions, req_mentions};
 ghost use Rattle.gv_expr.specs.Req.{reqs};
 ghost use Rattle.gv_entry.specs.Allowed.{is_free, parent_state};
-ghost use Rattle.gvis.specs.Queries.{class_flags};
 ghost use Rattle.gvis.specs.Judged.{case_of, parent_of};
-ghost use Rattle.gvis.specs.Queries.{class_of, has_query, has_wide, is_wide, required_of};
+ghost use Rattle.gvis.specs.Queries.{class_flags, class_of, has_query, has_wide, is_wide, required_of};
 
 use crate::classes::{class_in, classes};
 use crate::judged::Judged;

@@ -1,7 +1,6 @@
 //! The top call: all that the program does, over any outside.
-ghost use Rattle.std.specs.Prelude.{◌≡◌, ◌<◌, ◌≤◌, ◌⊎◌, ℕ, List, true, false, IfSome};
+ghost use Rattle.std.specs.Prelude.{◌≡◌, ◌<◌, ◌⊎◌, true, false, IfSome};
 ghost use Rattle.gv_base.specs.Causes.{Rose};
-ghost use Rattle.gv_base.specs.Outside.{gains};
 ghost use Rattle.gvis.specs.Look.{look_of};
 ghost use Rattle.gvis.specs.Run.{scan_of, said_by, world, GainsText, SaysNoRepository, SaysNotBuilt, Runs};
 ghost use Rattle.gvis.specs.Words.{is_scan};

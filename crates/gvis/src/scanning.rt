@@ -1,11 +1,7 @@
 //! A scan: reads a repository, judges it and writes the reports. Nothing is written before all is judged.
-ghost use Rattle.std.specs.Prelude.{◌≡◌, ◌≤◌, Ok, IfSome, IfOk, IfErr, OnOk, OnErr};
+ghost use Rattle.std.specs.Prelude.{◌≡◌, ◌≤◌, Ok, IfOk, IfErr, OnOk, OnErr};
 ghost use Rattle.gv_base.specs.Outside.{gains};
-ghost use Rattle.gvis.specs.Look.{look_of};
-ghost use Rattle.gvis.specs.LoadCauses.{LoadCause};
-ghost use Rattle.gvis.specs.Reading.{first_refusal};
 ghost use Rattle.gvis.specs.RepoReports.{scan_text, first_wide};
-ghost use Rattle.gvis.specs.Repository.{repo_of};
 ghost use Rattle.gvis.specs.Run.{world, IsText, IsLoaded, GainsFront, ReadCause, WideCause, WriteCause, Scans};
 
 use crate::output::put_all;

@@ -1,7 +1,7 @@
 //! Which package has a query of too many flags: the first of them in package order is told, and nothing is judged then.
 //!
 //! Each package is looked at in each profile and at each level, and costs its queries' flags where it is judged there.
-ghost use Rattle.std.specs.Prelude.{◌≡◌, [], flat_map, filter_map, fold, IfOk, OnOk};
+ghost use Rattle.std.specs.Prelude.{◌≡◌, [], flat_map, fold, IfOk, OnOk};
 ghost use Rattle.std.specs.BTreeSet.{insert_key};
 ghost use Rattle.std.specs.Option.{option_map_or};
 ghost use Rattle.gv_facts.specs.Visible.{judged};

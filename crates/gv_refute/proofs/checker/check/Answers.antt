@@ -1,4 +1,4 @@
-use Rattle.std.proofs.Common.{◌≡◌, ◌∙◌, ◌*◌, false, length, ap, replicate, sym, arith}
+use Rattle.std.proofs.Common.{◌≡◌, ◌∙◌, ◌*◌, false, length, ap}
 use Rattle.std.proofs.lemmas.List.{length-replicate}
 use Rattle.gv_refute.proofs.StepLemmas.{refused_at, passed_at}
 use Rattle.gv_refute.proofs.checker.check.Goals as goal

@@ -1,4 +1,4 @@
-use Rattle.std.proofs.Common.{◌≡◌, ◌*◌, ◌++◌, take, drop, length}
+use Rattle.std.proofs.Common.{◌≡◌, ◌*◌, ◌++◌, take, drop}
 use Rattle.gv_logic.specs.Logs.{first_refused, step_clauses}
 use Rattle.gv_refute.proofs.checker.check.Given as goal
 

@@ -1,4 +1,4 @@
-use Rattle.std.proofs.Common.{◌∙◌, ap, sym, arith}
+use Rattle.std.proofs.Common.{◌∙◌, ap, sym}
 use Rattle.gv_logic.specs.Logs.{Step}
 use Rattle.gv_refute.proofs.StepLemmas.{has_at}
 use Rattle.gv_refute.proofs.checker.step_from.Goals as goal

@@ -1,4 +1,4 @@
-use Rattle.std.proofs.Common.{◌≡◌, ◌∙◌, ◌<◌, ◌≤◌, false, length, length-set, ap, arith}
+use Rattle.std.proofs.Common.{◌∙◌, ◌≤◌, false, length, length-set, ap, arith}
 use Rattle.gv_refute.proofs.NoteLemmas.{unmarked, unmarked_past, cleared}
 use Rattle.gv_refute.proofs.marks.Marks.clear.Goals as goal
 

@@ -1,4 +1,4 @@
-use Rattle.std.proofs.Common.{◌≡◌, ◌≤◌, ℕ, length}
+use Rattle.std.proofs.Common.{◌≡◌, ◌≤◌, length}
 use Rattle.std.specs.Prelude.{vec_capacity, vec_len}
 use Rattle.gv_refute.proofs.NoteLemmas.{AreNoted}
 use Rattle.gv_refute.proofs.marks.Marks.clear.Given as goal

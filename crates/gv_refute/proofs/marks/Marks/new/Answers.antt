@@ -1,6 +1,5 @@
-use Rattle.std.proofs.Common.{◌≡◌, ◌*◌, ◌≤◌, false, replicate, rules, length, arith, ap, ◌∙◌}
+use Rattle.std.proofs.Common.{◌≡◌, ◌*◌, false, replicate, rules, length, arith, ap}
 use Rattle.std.proofs.lemmas.List.{length-replicate}
-use Rattle.std.specs.Prelude.{vec_capacity}
 use Rattle.gv_refute.proofs.NoteLemmas.{noted_new}
 use Rattle.gv_refute.proofs.marks.Marks.new.Goals as goal
 
