@@ -3,13 +3,11 @@
 use Rattle.std.proofs.Common.{◌≡◌, ℕ, List, [], ◌∷◌, Bool, true, false, cond, ◌&&◌, T, length, arith, map, Some, None, refl, sym, ap, subst, ◌∙◌}
 use Rattle.std.specs.declared.cmp.Ordering.{Ordering}
 use Rattle.std.specs.declared.cmp.Ordering.TheVariants.{Less, Equal, Greater}
-use Rattle.std.specs.declared.vec.Vec.{Vec}
-use Rattle.std.specs.declared.alloc.Global.{Global}
 use Rattle.std.specs.Map.{lookup, remove_entry, keys_of}
 use Rattle.std.specs.List.{AllByRecursion}
 use Rattle.std.specs.List.Sorted.{IsStrictlySortedBy}
 use Rattle.std.proofs.lemmas.Map.Keys.{sorted_head, sorted_tail}
-use Rattle.std.specs.BTreeMap.{is_at, insert_entry}
+use Rattle.std.specs.BTreeMap.{insert_entry}
 use Rattle.std.specs.Ordering.{eq_by_cmp, is_eq, is_lt, match_ordering}
 use Rattle.std.specs.Cmp.Lexicographic.{nat_list_cmp_total}
 use Rattle.std.specs.Prelude.{Option}
@@ -17,18 +15,8 @@ use Rattle.std.specs.FinMap.{get-empty, get, insert, remove, from_entries, entri
 use Rattle.std.specs.FinMap.Entries.{find, put, by_order, find-put, below_all, is_sorted}
 use Rattle.std.proofs.lemmas.Map.Lookups.{exact_bytes}
 use Rattle.gv_base.specs.Order.{byte_cmp}
-use Rattle.gv_base.specs.ByteMap.{ByteMap, seen_entry, map_of}
-
-abbrev pub Bytes : Type 0
-Bytes = Vec ℕ Global
-
--- the order of the keys of the tree
-abbrev pub key_cmp : Bytes → Bytes → Ordering
-key_cmp x y = byte_cmp x.items y.items
-
--- whether a key has these bytes
-abbrev pub at : List ℕ → Bytes → Bool
-at q = is_at (λ k. byte_cmp q k.items)
+use Rattle.gv_base.specs.Laws.{MapLaw}
+pub use Rattle.gv_base.specs.ByteMap.{ByteMap, Bytes, key_cmp, has_bytes, seen_entry, map_of, put_each}
 
 both : (a b : Bool) → T a → T b → T (a && b)
 both true b p q = q
@@ -57,13 +45,13 @@ no_length [] e = refl
 no_length (x ∷ es) e = absurd (omega arith)
 
 module _ {X : Type 0} where
-  find_seen : (es : List (Bytes × X)) (q : List ℕ) → find byte_cmp q (map seen_entry es) ≡ lookup (at q) es
+  find_seen : (es : List (Bytes × X)) (q : List ℕ) → find byte_cmp q (map seen_entry es) ≡ lookup (has_bytes q) es
   find_seen [] q = refl
   find_seen (e ∷ es) q =
-      elim (eq_by_cmp byte_cmp q e.0.items) as (λ b. cond b (Some e.1) (find byte_cmp q (map seen_entry es)) ≡ cond b (Some e.1) (lookup (at q) es)) [ true ↦ refl | false ↦ find_seen es q ]
+      elim (eq_by_cmp byte_cmp q e.0.items) as (λ b. cond b (Some e.1) (find byte_cmp q (map seen_entry es)) ≡ cond b (Some e.1) (lookup (has_bytes q) es)) [ true ↦ refl | false ↦ find_seen es q ]
 
   -- what the map has at a key
-  pub get-map_of : (es : List (Bytes × X)) (q : List ℕ) → get (map_of es) q ≡ lookup (at q) es
+  pub get-map_of : (es : List (Bytes × X)) (q : List ℕ) → get (map_of es) q ≡ lookup (has_bytes q) es
   get-map_of es q = get-from_entries nat_list_cmp_total (map seen_entry es) q ∙ find_seen es q
 
   put_seen : (es : List (Bytes × X)) (k : Bytes) (v : X) → map seen_entry (insert_entry key_cmp es k v) ≡ put byte_cmp k.items v (map seen_entry es)
@@ -82,23 +70,23 @@ module _ {X : Type 0} where
       ∙ sym (get-insert nat_list_cmp_total (map_of es) k.items v q ∙ ap (cond (eq_by_cmp byte_cmp q k.items) (Some v)) (get-from_entries nat_list_cmp_total (map seen_entry es) q)))
 
   -- a test of other bytes finds what it found
-  lookup_other : (es : List (Bytes × X)) (p q : List ℕ) → eq_by_cmp byte_cmp q p ≡ false → lookup (at q) (remove_entry (at p) es) ≡ lookup (at q) es
+  lookup_other : (es : List (Bytes × X)) (p q : List ℕ) → eq_by_cmp byte_cmp q p ≡ false → lookup (has_bytes q) (remove_entry (has_bytes p) es) ≡ lookup (has_bytes q) es
   lookup_other [] p q h = refl
   lookup_other (e ∷ es) p q h =
-      elim (eq_by_cmp byte_cmp p e.0.items) as (λ b. eq_by_cmp byte_cmp p e.0.items ≡ b → lookup (at q) (cond b es (e ∷ remove_entry (at p) es)) ≡ cond (at q e.0) (Some e.1) (lookup (at q) es)) [
+      elim (eq_by_cmp byte_cmp p e.0.items) as (λ b. eq_by_cmp byte_cmp p e.0.items ≡ b → lookup (has_bytes q) (cond b es (e ∷ remove_entry (has_bytes p) es)) ≡ cond (has_bytes q e.0) (Some e.1) (lookup (has_bytes q) es)) [
         | true ↦ λ hit.
             let same : p ≡ e.0.items = exact_bytes p e.0.items (equal _ hit) in
             rw (subst (λ (x : List ℕ). eq_by_cmp byte_cmp q x ≡ false) same h) refl
-        | false ↦ λ _. ap (cond (at q e.0) (Some e.1)) (lookup_other es p q h)
+        | false ↦ λ _. ap (cond (has_bytes q e.0) (Some e.1)) (lookup_other es p q h)
       ] refl
 
   -- a removal takes one key away
-  pub map_of-remove_entry : (es fs : List (Bytes × X)) (p : List ℕ) → fs ≡ remove_entry (at p) es → lookup (at p) fs ≡ None → map_of fs ≡ remove (map_of es) p
+  pub map_of-remove_entry : (es fs : List (Bytes × X)) (p : List ℕ) → fs ≡ remove_entry (has_bytes p) es → lookup (has_bytes p) fs ≡ None → map_of fs ≡ remove (map_of es) p
   map_of-remove_entry es fs p is none = same_map nat_list_cmp_total exact_bytes _ _ (λ q.
       get-map_of fs q
-      ∙ (elim (eq_by_cmp byte_cmp q p) as (λ b. eq_by_cmp byte_cmp q p ≡ b → lookup (at q) fs ≡ cond b None (get (map_of es) q)) [
-        | true ↦ λ hit. let same : q ≡ p = exact_bytes q p (equal _ hit) in ap (λ x. lookup (at x) fs) same ∙ none
-        | false ↦ λ miss. ap (lookup (at q)) is ∙ lookup_other es p q miss ∙ sym (get-map_of es q)
+      ∙ (elim (eq_by_cmp byte_cmp q p) as (λ b. eq_by_cmp byte_cmp q p ≡ b → lookup (has_bytes q) fs ≡ cond b None (get (map_of es) q)) [
+        | true ↦ λ hit. let same : q ≡ p = exact_bytes q p (equal _ hit) in ap (λ x. lookup (has_bytes x) fs) same ∙ none
+        | false ↦ λ miss. ap (lookup (has_bytes q)) is ∙ lookup_other es p q miss ∙ sym (get-map_of es q)
       ] refl)
       ∙ sym (get-remove nat_list_cmp_total (map_of es) p q))
 
@@ -137,11 +125,6 @@ module _ {X : Type 0} where
   pub keys-map_of : (es : List (Bytes × X)) → IsStrictlySortedBy key_cmp (keys_of es) → keys (map_of es) ≡ map (λ (k : Bytes). k.items) (keys_of es)
   keys-map_of es h = ap (map (λ (e : List ℕ × X). e.0)) (entries-map_of es h) ∙ keys_seen es
 
-  -- one entry after another is put into the map
-  abbrev pub put_each : ByteMap X → List (List ℕ × X) → ByteMap X
-  put_each m [] = m
-  put_each m (e ∷ es) = put_each (insert m e.0 e.1) es
-
   abbrev or_else : Option X → Option X → Option X
   or_else (Some x) o = Some x
   or_else None o = o
@@ -171,3 +154,14 @@ module _ {X : Type 0} where
       ∙ ap (or_else (find byte_cmp q (map seen_entry es))) (get-empty byte_cmp q)
       ∙ or_nothing _
       ∙ sym (get-from_entries nat_list_cmp_total (map seen_entry es) q))
+
+  pub map_law : MapLaw X
+  map_law =
+      record {
+        get = get-map_of;
+        insert = map_of-insert_entry;
+        remove = map_of-remove_entry;
+        entries = entries-map_of;
+        keys = keys-map_of;
+        again = put_each-map_of;
+      }

@@ -14,6 +14,7 @@ use Rattle.std.proofs.lemmas.Map.Text.{is_eq-slice_cmp}
 use Rattle.std.proofs.lemmas.Bool.{both_ways}
 use Rattle.std.proofs.lemmas.Slice.Eq.{bytes_eq-Decides}
 use Rattle.std.proofs.Math.Bool.{or_assoc, or-true, or-false}
+use Rattle.gv_base.specs.Laws.{ByteOrderLaw, InOrderLaw}
 use Rattle.gv_base.specs.Order.{byte_cmp, has_text, HaveSameTexts, IsAscending, in_order}
 
 abbrev put_all : List (List ℕ) → List (List ℕ) → List (List ℕ)
@@ -142,3 +143,19 @@ pub ascending-distinct : (xs : List (List ℕ)) → IsAscending xs → IsDistinc
 unfolding IsStrictlySortedBy IsDistinct
 ascending-distinct [] a = tt
 ascending-distinct (x ∷ xs) a = (others_apart x xs a.0, ascending-distinct xs a.1)
+
+pub byte_order_law : ByteOrderLaw
+byte_order_law = record { total = nat_list_cmp_total; exact = exact_bytes; equal = is_eq-slice_cmp }
+
+pub in_order_law : InOrderLaw
+in_order_law =
+    record {
+      ascends = in_order-ascends;
+      members = in_order-has;
+      same = same_in_order;
+      unique = ascending_same;
+      in_order_already = in_order-ascending;
+      distinct = ascending-distinct;
+      put_ascends = ascends_put;
+      put_members = has_put;
+    }

@@ -2,28 +2,26 @@
 //!
 //! Among n files, `is_folder` costs O(log n) comparisons of paths, and `names_below` O(k log n) for the k files below the
 //! path; neither goes through the other files. Both make two keys, so they take memory.
-ghost use Rattle.std.specs.Prelude.{◌≡◌, ◌==◌, ◌≤◌, length, IfOk};
-ghost use Rattle.std.specs.List.{position_or_len};
+ghost use Rattle.std.specs.Prelude.{◌≡◌, IfOk};
 ghost use Rattle.std.specs.Option.{option_copied};
-ghost use Rattle.gv_base.specs.Cut.{up_to_first};
 ghost use Rattle.gv_base.specs.Listing.{below, next_part, is_folder, names_below};
 
-use crate::{Files, NoMemory, Text, Texts};
+use crate::{Files, NoMemory, Text, Texts, until};
 use std::alloc::Global;
 use std::collections::BTreeSet;
 
 const SLASH: u8 = b'/';
 
 impl Files {
-    // Whether some file's path begins with this one and a slash.
-    pub(crate) fn is_folder(&self, path: &[u8]) -> Result<bool, NoMemory>
+    /// Whether some file's path begins with this one and a slash.
+    pub fn is_folder(&self, path: &[u8]) -> Result<bool, NoMemory>
         ensures { IfOk result (λ is. is ≡ is_folder self.now path.now) }
     {
         Ok(self.below(path)?.next().is_some())
     }
 
-    // The next parts of the files below the path, in byte order, each once.
-    pub(crate) fn names_below(&self, alloc: Global, path: &[u8]) -> Result<Texts, NoMemory>
+    /// The next parts of the files below the path, in byte order, each once.
+    pub fn names_below(&self, alloc: Global, path: &[u8]) -> Result<Texts, NoMemory>
         ensures { IfOk result (λ names. names ≡ names_below self.now path.now) }
     {
         let mut names = BTreeSet::new(alloc);
@@ -46,30 +44,11 @@ fn below<'a>(path: &[u8], key: &'a [u8]) -> Option<&'a [u8]>
     }
 }
 
-// Where the first slash is, or the length.
-fn first_slash(rest: &[u8]) -> usize
-    ensures place { result ≡ position_or_len (λ b. b == 47) rest.now }
-    ensures within { result ≤ length rest.now }
-{
-    for (i, b) in rest.iter().enumerate() {
-        if *b == SLASH {
-            return i;
-        }
-    }
-    rest.len()
-}
-
-fn first_part(rest: &[u8]) -> &[u8]
-    ensures { result.now ≡ up_to_first 47 rest.now }
-{
-    &rest[..first_slash(rest)]
-}
-
 fn next_part<'a>(path: &[u8], key: &'a [u8]) -> Option<&'a [u8]>
     ensures { option_copied result ≡ next_part path.now key.now }
 {
     match below(path, key) {
-        Some(rest) => Some(first_part(rest)),
+        Some(rest) => Some(until(rest, SLASH)),
         None => None,
     }
 }

@@ -1,8 +1,10 @@
 //! A text cut into pieces: lines, words, tokens or the parts of a path.
 //!
-//! `next_piece` costs the bytes of the piece that it takes off, so a text is cut in O(its bytes); nothing is copied.
-ghost use Rattle.std.specs.Prelude.{◌≡◌, ◌∷◌, ◌≤◌, [], not, length, IfNone, MatchOption};
-ghost use Rattle.std.specs.List.{prefix_len};
+//! `next_piece` costs the bytes of the piece that it takes off, so a text is cut in O(its bytes); nothing is copied. `until` costs the
+//! bytes that it gives back.
+ghost use Rattle.std.specs.Prelude.{◌≡◌, ◌==◌, ◌∷◌, ◌≤◌, [], not, length, IfNone, MatchOption};
+ghost use Rattle.std.specs.List.{position_or_len, prefix_len};
+ghost use Rattle.gv_base.specs.Cut.{up_to_first};
 ghost use Rattle.gv_base.specs.Pieces.{is_blank, separates, pieces, left};
 
 /// What a text is cut by.
@@ -32,6 +34,26 @@ pub fn next_piece<'a>(rest: &mut Option<&'a [u8]>, cut: Cut) -> Option<&'a [u8]>
             Some(piece)
         }
     }
+}
+
+/// The bytes before the first such byte, or all where there is none.
+pub fn until(bytes: &[u8], byte: u8) -> &[u8]
+    ensures { result.now ≡ up_to_first byte bytes.now }
+{
+    &bytes[..first_place(bytes, byte)]
+}
+
+// Where the first such byte is, or the length.
+fn first_place(bytes: &[u8], byte: u8) -> usize
+    ensures place { result ≡ position_or_len (λ b. b == byte) bytes.now }
+    ensures within { result ≤ length bytes.now }
+{
+    for (i, b) in bytes.iter().enumerate() {
+        if *b == byte {
+            return i;
+        }
+    }
+    bytes.len()
 }
 
 // The first piece, and what is behind its separator.

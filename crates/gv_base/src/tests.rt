@@ -3,8 +3,9 @@ ghost use Rattle.std.specs.Prelude.{◌≡◌};
 
 use crate::{
     Calls, Cut, Failed, Files, Found, Kind, Ledger, MemSink, MemSource, MemStore, MemTree, Sink,
-    SinkFault, Source, Steps, Store, StoreFault, Text, Texts, Tree, TreeFault, has_plain_bytes,
-    is_path, next_piece, tokens_of, words_of,
+    SinkFault, Source, Steps, Store, StoreFault, Text, Texts, Tree, TreeFault, byte_order_law,
+    has_plain_bytes, in_order_law, is_part, is_path, map_law, next_piece, tokens_of, until,
+    words_of,
 };
 use std::alloc::Global;
 use std::marker::Brand;
@@ -131,6 +132,12 @@ fn texts_are_cut_into_lines_words_tokens_and_parts(rt: HostRuntime) {
         assert!(rt; is_path(bytes) == want);
     }
     assert!(rt; has_plain_bytes(b"!/~") && !has_plain_bytes(b"a\x7f"));
+    assert!(rt; is_part(b"...") && !is_part(b"..") && !is_part(b"") && !is_part(b"a/b"));
+    same(&rt, until(b"a=b=c", b'='), b"a");
+    same(&rt, until(b"a=b", b'-'), b"a=b");
+    byte_order_law();
+    in_order_law();
+    map_law::<Text>();
 }
 
 fn same_found<R: Abort>(rt: &R, got: Option<&[u8]>, want: &[u8]) {
@@ -147,6 +154,12 @@ fn files_are_put_cut_and_found(rt: HostRuntime) {
     same_found(&rt, files.get(b"a/b/c"), b"-");
     same_found(&rt, files.get(b"a/b/d"), b"three");
     same_found(&rt, files.get(b"a/b"), b"-");
+    let cases: [(&[u8], bool); 4] = [(b"a", true), (b"a/b", true), (b"ab", false), (b"", false)];
+    for (path, want) in cases {
+        assert!(rt; files.is_folder(path).expect(&rt, "memory") == want);
+    }
+    let names = files.names_below(rt.alloc(), b"a").expect(&rt, "memory");
+    same_texts(&rt, rt.alloc(), &names, b"b|b-1");
 }
 
 // What was found, in one text.
@@ -191,6 +204,25 @@ fn tree_fails_at_the_listed_call_alone(rt: HostRuntime) {
     assert!(rt; names.items().len() == 2);
 }
 
+// Whether a file of so many bytes is read, and isn't too large.
+fn is_read<R: Abort>(rt: &R, alloc: Global, len: usize) -> bool {
+    let bytes = vec![in alloc; b'x'; len].expect(rt, "memory");
+    let mut files = Files::new(alloc);
+    files.put(b"file", &bytes).expect(rt, "memory");
+    let mut tree = MemTree::new(files, Calls::new(alloc));
+    match tree.read(alloc, &text(rt, alloc, b"file")) {
+        Ok(Found::File(read)) => read.bytes().len() == len,
+        Err(TreeFault::TooLarge) => false,
+        _ => panic!(rt; "a file is there"),
+    }
+}
+
+#[test]
+fn the_limit_of_a_file_is_read_and_one_more_byte_is_not(rt: HostRuntime) {
+    assert!(rt; is_read(&rt, rt.alloc(), 16_777_216));
+    assert!(rt; !is_read(&rt, rt.alloc(), 16_777_217));
+}
+
 #[test]
 fn store_fails_at_the_listed_call_alone(rt: HostRuntime) {
     let alloc = rt.alloc();
@@ -227,6 +259,7 @@ fn source_and_sink_fail_at_the_listed_call_alone(rt: HostRuntime) {
         assert!(rt; sink.put(piece) == want);
     }
     same(&rt, sink.held(), b"abcde");
+    assert!(rt; sink.put(b"") == Ok(0));
 }
 
 // Counts, and answers how many bytes the counts take.
