@@ -1,54 +1,19 @@
 -- Digits as they are written, and the numbers that they are.
 use Rattle.std.proofs.Common.{◌≡◌, ℕ, suc, ◌+◌, ◌*◌, ◌-◌, ◌<◌, ◌≤◌, Bool, true, false, List, [], ◌∷◌, length, drop, refl, ap, sym, ◌∙◌, arith, ◌⊎◌, inl, inr}
-use Rattle.std.proofs.lemmas.Bool.{and_parts, eqb-true, eqb-false, cases_order}
-use Rattle.std.specs.Prelude.{fold}
-use Rattle.std.specs.Cmp.{nat_cmp_is}
+use Rattle.std.proofs.lemmas.Bool.{and_parts, eqb-true, cases_order}
 use Rattle.std.specs.Cmp.Lexicographic.{slice_cmp}
 use Rattle.std.specs.List.{list_all, prefix_len}
 use Rattle.std.specs.Ordering.{nat_cmp, ordering_then}
 use Rattle.std.specs.declared.cmp.Ordering.{Ordering}
 use Rattle.std.specs.declared.cmp.Ordering.TheVariants.{Less, Equal, Greater}
 use Rattle.gv_version.specs.Bytes.{is_digit, begins_with, behind}
+use Rattle.gv_version.specs.TotalDigits.{is_less, is_equal, is_greater, then_equal, number_behind, digit_within, shorter}
 use Rattle.gv_version.specs.VersionOrder.{number_of, is_zero}
-
-pub is_less : (a b : ℕ) → a < b → nat_cmp a b ≡ Less
-is_less a b h = sym (nat_cmp_is a b Less h)
-
-pub is_equal : (a b : ℕ) → a ≡ b → nat_cmp a b ≡ Equal
-is_equal a b h = sym (nat_cmp_is a b Equal h)
-
-pub is_greater : (a b : ℕ) → b < a → nat_cmp a b ≡ Greater
-is_greater a b h = sym (nat_cmp_is a b Greater h)
-
-pub then_equal : (o : Ordering) → ordering_then o Equal ≡ o
-then_equal Less = refl
-then_equal Equal = refl
-then_equal Greater = refl
 
 pub then_then : (o p q : Ordering) → ordering_then (ordering_then o p) q ≡ ordering_then o (ordering_then p q)
 then_then Less p q = refl
 then_then Equal p q = refl
 then_then Greater p q = refl
-
--- the number of the digits behind those of n
-abbrev number_behind : ℕ → List ℕ → ℕ
-number_behind n digits = fold (λ n d. 10 * n + (d - 48)) n digits
-
-at_least : (m : ℕ) (ys : List ℕ) → m ≤ number_behind m ys
-at_least m [] = omega arith
-at_least m (y ∷ ys) = let more = at_least (10 * m + (y - 48)) ys in omega (arith, more)
-
-pub digit_within : (d : ℕ) → is_digit d ≡ true → (48 ≤ d) × (d ≤ 57)
-digit_within d h = grind arith
-
-grows : (n m : ℕ) (xs ys : List ℕ) → n < m → length xs ≤ length ys → list_all is_digit xs ≡ true → number_behind n xs < number_behind m ys
-grows n m [] ys lt le h = let more = at_least m ys in omega (arith, more)
-grows n m (x ∷ xs) [] lt le h = absurd (omega arith)
-grows n m (x ∷ xs) (y ∷ ys) lt le h =
-    let both = and_parts (is_digit x) (list_all is_digit xs) h in
-    let within = digit_within x both.0 in
-    let less : 10 * n + (x - 48) < 10 * m + (y - 48) = omega (arith, within.0, within.1) in
-    grows (10 * n + (x - 48)) (10 * m + (y - 48)) xs ys less (omega arith) both.1
 
 step_cmp : (n m x y : ℕ) → is_digit x ≡ true → is_digit y ≡ true → nat_cmp (10 * n + (x - 48)) (10 * m + (y - 48)) ≡ ordering_then (nat_cmp n m) (nat_cmp x y)
 step_cmp n m x y hx hy = by (cases_order n m) (cases_order x y) (digit_within x hx) (digit_within y hy)
@@ -94,15 +59,6 @@ bared (d ∷ ds) h = by (is_zero d) refl (bared ds (and_parts (is_digit d) (list
         let zero_digit : number_of (d ∷ ds) ≡ number_of ds = ap (λ x. number_of (x ∷ ds)) (eqb-true d 48 e) in
         rw (behind_yes is_zero d ds e) (record { number = zero_digit ∙ later.number; good = later.good; first = later.first })
     by false e later = rw (behind_no is_zero d ds e) (record { number = refl; good = h; first = e })
-
-pub shorter : (x y : List ℕ) → length x < length y → list_all is_digit x ≡ true → list_all is_digit y ≡ true → begins_with is_zero y ≡ false → number_of x < number_of y
-shorter x [] lt hx hy first = absurd (omega arith)
-shorter x (y ∷ ys) lt hx hy first =
-    let both = and_parts (is_digit y) (list_all is_digit ys) hy in
-    let within = digit_within y both.0 in
-    let apart = eqb-false y 48 first in
-    let some : 0 < 10 * 0 + (y - 48) = omega (arith, within.0, apart) in
-    grows 0 (10 * 0 + (y - 48)) x ys some (omega arith) hx
 
 bare_cmp : (x y : List ℕ) → list_all is_digit x ≡ true → list_all is_digit y ≡ true → begins_with is_zero x ≡ false → begins_with is_zero y ≡ false
     → nat_cmp (number_of x) (number_of y) ≡ ordering_then (nat_cmp (length x) (length y)) (slice_cmp nat_cmp x y)

@@ -11,7 +11,8 @@ use Rattle.gv_version.specs.VersionOrder.{number_of, rank, revision_number, cmp_
 use Rattle.gv_version.specs.VersionPieces.{Piece, first, later, letter, revision, number_pieces, pieces_of}
 use Rattle.gv_version.specs.PieceReading.{cmp_pieces, pieces_in}
 use Rattle.gv_version.specs.declared.pieces.Kind.{Kind}
-use Rattle.gv_version.proofs.Integers.{then_equal, then_then}
+use Rattle.gv_version.specs.TotalDigits.{then_equal}
+use Rattle.gv_version.proofs.Integers.{then_then}
 use Rattle.gv_version.proofs.PartsLaw.{body_pieces, pieces_read}
 
 abbrev revision_pieces : Option (List ℕ) → List Piece

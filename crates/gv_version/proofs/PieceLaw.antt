@@ -1,11 +1,11 @@
 -- Pieces are read from the front, one by one.
-use Rattle.std.proofs.Common.{◌≡◌, ℕ, suc, zero, ◌+◌, ◌<◌, ◌≤◌, Bool, true, false, List, [], ◌∷◌, length, take, refl, ap, sym, ◌∙◌, subst, arith, if◌then◌else◌, Option, Some, None, IfSome}
-use Rattle.std.proofs.lemmas.Bool.{and_from}
+use Rattle.std.proofs.Common.{◌≡◌, ℕ, suc, zero, ◌<◌, ◌≤◌, Bool, true, false, List, [], ◌∷◌, length, refl, ap, sym, ◌∙◌, subst, arith, if◌then◌else◌, Option, Some, None, IfSome}
 use Rattle.std.proofs.lemmas.List.{length-drop}
 use Rattle.std.specs.Prelude.{◌==◌, option_map}
 use Rattle.std.specs.Borrow.{Bor}
-use Rattle.std.specs.List.{list_all, prefix_len}
+use Rattle.std.specs.List.{prefix_len}
 use Rattle.gv_version.specs.Bytes.{is_digit, is_small, front, behind}
+use Rattle.gv_version.specs.TotalDigits.{front_passes}
 use Rattle.gv_version.specs.VersionForm.{kind_named}
 use Rattle.gv_version.specs.VersionPieces.{Piece, first, later, letter, suffix, agrees, is_front}
 use Rattle.gv_version.specs.PieceReading.{shown_piece, shown, are_digits, next_suffix, next_revision, next_piece, pieces_within, pieces_in, cmp_piece, cmp_pieces}
@@ -14,17 +14,6 @@ use Rattle.std.specs.declared.cmp.Ordering.TheVariants.{Equal}
 use Rattle.gv_version.specs.declared.pieces.Kind.{Kind}
 use Rattle.gv_version.specs.declared.pieces.Piece as code
 use Rattle.gv_version.proofs.Integers.{behind_yes}
-
-pub front_passes : (test : ℕ → Bool) (xs : List ℕ) → list_all test (front test xs) ≡ true
-front_passes test [] = refl
-front_passes test (x ∷ xs) = by (test x) refl (front_passes test xs)
-  where
-    by : (u : Bool) → test x ≡ u → list_all test (front test xs) ≡ true → list_all test (front test (x ∷ xs)) ≡ true
-    by true e h =
-        let more : 1 + prefix_len test xs ≡ suc (prefix_len test xs) = omega arith in
-        let whole : front test (x ∷ xs) ≡ x ∷ front test xs = rw e (ap (λ n. take n (x ∷ xs)) more) in
-        ap (list_all test) whole ∙ and_from (test x) (list_all test (front test xs)) e h
-    by false e h = rw e refl
 
 behind_within : (test : ℕ → Bool) (xs : List ℕ) → length (behind test xs) ≤ length xs
 behind_within test xs = let cut = length-drop (prefix_len test xs) xs in omega (arith, cut)

@@ -11,7 +11,7 @@ use Rattle.gv_version.specs.VersionForm.{Parts, suffix_text, revision_text, vers
 use Rattle.gv_version.specs.VersionOrder.{cmp_but_revision, cmp_parts, same_but_revision}
 use Rattle.gv_version.specs.PieceReading.{cmp_pieces, pieces_in}
 use Rattle.gv_version.proofs.FormLaw.{front_ends, revision_stops, suffixes_in, joined_bytes, form_says, says_form, read_parts}
-use Rattle.gv_version.proofs.Integers.{then_equal}
+use Rattle.gv_version.specs.TotalDigits.{then_equal}
 use Rattle.gv_version.proofs.OrderLaw.{form_of, pieces_cmp}
 
 abbrev bare : Parts → Parts

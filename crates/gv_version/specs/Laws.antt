@@ -5,7 +5,8 @@ use Rattle.std.specs.Ordering.{is_le, ordering_reverse}
 use Rattle.std.specs.declared.cmp.Ordering.{Ordering}
 use Rattle.std.specs.declared.cmp.Ordering.TheVariants.{Equal}
 use Rattle.gv_version.specs.Names.{is_package, split_pf}
-use Rattle.gv_version.specs.VersionForm.{HasForm, is_version, long_run}
+use Rattle.gv_version.specs.VersionForm.{HasForm, has_form, is_version, long_run}
+use Rattle.gv_version.specs.VersionOrder.{compare}
 
 -- a total order up to versions that it calls equal, which are alike against every third
 pub record IsOrder (order : List ℕ → List ℕ → Ordering) : Type 0 where
@@ -20,6 +21,12 @@ pub record IsSameness (same : List ℕ → List ℕ → Bool) : Type 0 where
   pub reflexive : (a : List ℕ) → same a a ≡ true
   pub symmetric : (a b : List ℕ) → same a b ≡ true → same b a ≡ true
   pub transitive : (a b c : List ℕ) → same a b ≡ true → same b c ≡ true → same a c ≡ true
+
+-- each text begins itself, what begins a front begins the whole, and texts of the form that begin each other are equal
+pub record IsFronts (begins : List ℕ → List ℕ → Bool) : Type 0 where
+  pub reflexive : (a : List ℕ) → begins a a ≡ true
+  pub transitive : (a b c : List ℕ) → begins a b ≡ true → begins b c ≡ true → begins a c ≡ true
+  pub equal : (a b : List ℕ) → has_form a ≡ true → has_form b ≡ true → begins a b ≡ true → begins b a ≡ true → compare a b ≡ Equal
 
 -- a hyphen at the place divides the bytes into a package name and a text of version form
 pub record Divides (bytes : List ℕ) (at : ℕ) : Type 0 where

@@ -1,8 +1,9 @@
 //! Laws of the definitions: each function does nothing, and its contract is a law that holds of all
 //! texts, whether they are versions or not.
 ghost use Rattle.std.specs.Prelude.{◌≡◌, ◌↔◌, ℕ, List, true};
+ghost use Rattle.std.specs.Cmp.{IsTotalOrder};
 ghost use Rattle.std.specs.declared.cmp.Ordering.TheVariants.{Equal};
-ghost use Rattle.gv_version.specs.Laws.{IsDivided, IsOrder, IsSameness};
+ghost use Rattle.gv_version.specs.Laws.{IsDivided, IsFronts, IsOrder, IsSameness};
 ghost use Rattle.gv_version.specs.VersionForm.{HasForm, has_form};
 ghost use Rattle.gv_version.specs.VersionOrder.{compare, same_but_revision};
 ghost use Rattle.gv_version.specs.VersionPieces.{begins};
@@ -14,10 +15,11 @@ pub fn form_law()
 {}
 
 /// The order of versions is reflexive, total, transitive and antisymmetric up to equal versions,
-/// which are alike against every third.
-#[tactic(auto, using(crate::proofs::OrderIs::is_order))]
+/// which are alike against every third; std's words for it are the second clause.
+#[tactic(auto, using(crate::proofs::OrderIs::is_order, crate::specs::Total::version_total))]
 pub fn order_law()
-    ensures { IsOrder compare }
+    ensures order { IsOrder compare }
+    ensures total { IsTotalOrder compare }
 {}
 
 /// To be the same but for the revision is an equivalence, and equal versions are so.
@@ -27,10 +29,11 @@ pub fn same_but_revision_law()
     ensures equal { (a b : List ℕ) → compare a b ≡ Equal → same_but_revision a b ≡ true }
 {}
 
-/// A version begins itself.
-#[tactic(auto, using(crate::proofs::OrderIs::begins_itself))]
+/// A version begins itself, what begins a front of a version begins the version, and versions that begin each other are
+/// equal in the order.
+#[tactic(auto, using(crate::proofs::FrontLaw::are_fronts))]
 pub fn begins_law()
-    ensures { (bytes : List ℕ) → begins bytes bytes ≡ true }
+    ensures { IsFronts begins }
 {}
 
 /// A text is divided at the one hyphen by which it is a package name, a hyphen and a version.

@@ -92,6 +92,63 @@ pub fn compare(a: &Version, b: &Version) -> Ordering
     compare_texts(a.text(), b.text())
 }
 
+impl PartialEq for Version {
+    ghost use Rattle.std.specs.Cmp.{partial_equiv_from_equiv};
+    ghost use Rattle.std.specs.Ordering.{eq_by_cmp};
+    ghost use Rattle.std.proofs.lemmas.Cmp.{eq_by_cmp_equiv};
+    ghost use Rattle.gv_version.specs.Total.{version_total};
+    ghost use Rattle.gv_version.specs.VersionOrder.{compare};
+
+    ghost eq = { eq_by_cmp compare };
+
+    ghost laws = { partial_equiv_from_equiv (eq_by_cmp_equiv version_total) };
+
+    fn eq(&self, other: &Version) -> bool {
+        matches!(compare(self, other), Ordering::Equal)
+    }
+}
+
+impl Eq for Version {
+    ghost use Rattle.std.proofs.lemmas.Cmp.{eq_by_cmp_equiv};
+    ghost use Rattle.gv_version.specs.Total.{version_total};
+
+    ghost laws = { eq_by_cmp_equiv version_total };
+}
+
+impl PartialOrd for Version {
+    ghost use Rattle.std.specs.Cmp.{partial_order_from_total};
+    ghost use Rattle.std.specs.Ordering.{as_partial_cmp};
+    ghost use Rattle.gv_version.specs.Total.{version_total};
+    ghost use Rattle.gv_version.specs.VersionOrder.{compare};
+
+    ghost partial_cmp = { as_partial_cmp compare };
+
+    ghost laws = { partial_order_from_total version_total };
+
+    fn partial_cmp(&self, other: &Version) -> Option<Ordering> {
+        Some(compare(self, other))
+    }
+}
+
+impl Ord for Version {
+    ghost use Rattle.std.specs.Cmp.Rules.{comparing};
+    ghost use Rattle.std.proofs.Common.{rules};
+    ghost use Rattle.gv_version.specs.Total.{version_total};
+    ghost use Rattle.gv_version.specs.VersionOrder.{compare};
+
+    ghost cmp = { compare };
+
+    ghost total = { version_total };
+
+    ghost matches_partial_cmp = { Prim.search (comparing, rules) };
+
+    ghost matches_eq = { Prim.search (comparing, rules) };
+
+    fn cmp(&self, other: &Version) -> Ordering {
+        compare(self, other)
+    }
+}
+
 // What stands before the hyphen of the revision.
 fn without_revision(text: &[u8]) -> &[u8]
     ensures { result.now ≡ front is_in_suffixes text.now }

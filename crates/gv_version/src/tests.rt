@@ -1,7 +1,7 @@
 //! Versions and names against values that were made by hand from the algorithms of PMS chapters 3 and 8.
 //! Each line of a table is one case.
 use crate::{
-    VersionFault, begins, compare, is_category, is_flag, is_keyword, is_package, is_slot,
+    Version, VersionFault, begins, compare, is_category, is_flag, is_keyword, is_package, is_slot,
     read_version, same_but_revision, split_pf,
 };
 use std::cmp::Ordering;
@@ -138,13 +138,17 @@ fn versions_in_order(rt: HostRuntime) -> Result<(), Fail> {
         let (one, sign, other) = three_words(line)?;
         let a = read_version(rt.alloc(), one.as_bytes())?;
         let b = read_version(rt.alloc(), other.as_bytes())?;
-        let want = if sign == "<" {
-            Ordering::Less
-        } else {
-            Ordering::Equal
+        let want = match sign {
+            "<" => Ordering::Less,
+            "=" => Ordering::Equal,
+            _ => return Err("a pair is in order or equal".into()),
         };
         assert_eq!(rt; compare(&a, &b), want, "{line}");
         assert_eq!(rt; compare(&b, &a), want.reverse(), "{line}");
+        assert!(rt;
+            (a < b) == (sign == "<") && (a == b) == (sign == "="),
+            "{line}"
+        );
     }
     Ok(())
 }
@@ -183,13 +187,29 @@ fn fronts_and_revisions(rt: HostRuntime) -> Result<(), Fail> {
         let (one, sign, other) = three_words(line)?;
         let a = read_version(rt.alloc(), one.as_bytes())?;
         let b = read_version(rt.alloc(), other.as_bytes())?;
-        let holds = if sign.ends_with('~') {
-            same_but_revision(&a, &b)
-        } else {
-            begins(&a, &b)
+        let holds = match sign {
+            "~" => same_but_revision(&a, &b),
+            "!~" => !same_but_revision(&a, &b),
+            "*" => begins(&a, &b),
+            "!*" => !begins(&a, &b),
+            _ => false,
         };
-        assert!(rt; holds != sign.starts_with('!'), "{line}");
+        assert!(rt; holds, "{line}");
         assert!(rt; a.text() == one.as_bytes(), "{line}");
+    }
+    Ok(())
+}
+
+#[test]
+fn copies_are_sorted_as_the_versions(rt: HostRuntime) -> Result<(), Fail> {
+    let mut versions = Vec::new(rt.alloc());
+    for text in "1.10 1-r1 1.9 1 1_rc1".split(' ') {
+        let version = read_version(rt.alloc(), text.as_bytes())?;
+        versions.push(Version::of(rt.alloc(), version.copy(rt.alloc())?.text())?)?;
+    }
+    versions.sort()?;
+    for (version, text) in versions.iter().zip("1_rc1 1 1-r1 1.9 1.10".split(' ')) {
+        assert!(rt; version.text() == text.as_bytes(), "{text}");
     }
     Ok(())
 }
@@ -327,12 +347,22 @@ fn names_and_their_versions(rt: HostRuntime) -> Result<(), Fail> {
             "flag" => is_flag(bytes),
             "keyword" => is_keyword(bytes),
             "package" => is_package(bytes),
-            _ => {
-                assert!(rt; split_pf(bytes) == answer.parse::<u32>().ok(), "{line}");
+            "pf" => {
+                let place = match answer {
+                    "none" => None,
+                    _ => Some(answer.parse::<u32>()?),
+                };
+                assert!(rt; split_pf(bytes) == place, "{line}");
                 continue;
             }
+            _ => return Err("a name is of one of six kinds".into()),
         };
-        assert!(rt; holds == (answer == "yes"), "{line}");
+        let want = match answer {
+            "yes" => true,
+            "no" => false,
+            _ => return Err("a name is good or not".into()),
+        };
+        assert!(rt; holds == want, "{line}");
     }
     Ok(())
 }

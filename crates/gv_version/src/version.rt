@@ -1,15 +1,16 @@
 //! A version, which keeps its text.
 //!
-//! `read_version` costs O(bytes) and takes the memory of the text; no other call here takes any.
+//! `read_version`, `of` and `copy` cost O(bytes) and take the memory of the text; `text` takes none.
 ghost use Rattle.std.specs.Prelude.{◌≡◌, true, IfOk, MatchResult};
 ghost use Rattle.gv_version.specs.VersionForm.{is_version};
 ghost use Rattle.gv_version.specs.VersionFaults.{IsFaultOf};
 
 use crate::form::{has_form, long_run, longest_form};
-use std::alloc::Global;
+use std::alloc::{AllocError, Global};
 use std::marker::Model;
 
-/// A version, which keeps its text. To copy one, read its text again.
+/// A version, which keeps its text. Two are equal (`==`) where the order of versions says so, as `1` and `1-r0` are,
+/// whatever their texts.
 #[derive(Drop)]
 pub struct Version {
     text: Vec<u8>,
@@ -39,6 +40,23 @@ pub enum VersionFault {
 }
 
 impl Version {
+    /// The version with this text, which has the form. O(bytes).
+    pub fn of(alloc: Global, text: &[u8]) -> Result<Version, AllocError>
+        requires { is_version text.now ≡ true }
+        ensures { IfOk result (λ version. version ≡ text.now) }
+    {
+        Ok(Version {
+            text: text.to_vec(alloc)?,
+        })
+    }
+
+    /// The version with the same text. O(bytes).
+    pub fn copy(&self, alloc: Global) -> Result<Version, AllocError>
+        ensures { IfOk result (λ copy. copy ≡ self.now) }
+    {
+        Version::of(alloc, self.text())
+    }
+
     /// The bytes that were read.
     pub fn text(&self) -> &[u8]
         ensures text { result.now ≡ self.now }
