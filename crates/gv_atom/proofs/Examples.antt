@@ -1,9 +1,12 @@
 -- Values of the definitions.
-use Rattle.std.specs.Prelude.{◌≡◌, ℕ, Bool, true, false, List, Option, Some, option_map, codes, refl}
+use Rattle.std.specs.Prelude.{◌≡◌, ℕ, Bool, true, false, List, [], ◌∷◌, map, Option, None, Some, option_map, codes, refl}
 use Rattle.gv_atom.specs.declared.fault.AtomKind.TheVariants.{Category, Package, Version, Repo, Slot, Item}
+use Rattle.gv_atom.specs.declared.atom.Block.TheVariants.{No, Weak, Strong}
+use Rattle.gv_atom.specs.declared.items.Ask.TheVariants.{On, Off, Same, Opposite, OnIf, OffIfNot}
 use Rattle.gv_atom.specs.AtomMatch.{matches}
 use Rattle.gv_atom.specs.AtomRead.{atom_fault, read_atom}
 use Rattle.gv_atom.specs.AtomText.{atom_text, is_atom}
+use Rattle.gv_atom.specs.UseItems.{asked, asks_parent, is_blocker}
 
 -- whether an atom of these bytes matches x/y of this version in slot 0
 abbrev match_y : List ℕ → List ℕ → Option Bool
@@ -47,6 +50,21 @@ item_missing = refl
 
 items_empty : atom_fault (codes "x/y[]") ≡ Some (Item, 4)
 items_empty = refl
+
+-- what each item asks, where the parent's flag is on and where it is off, and which look at it
+asked_on : map (λ a. asked a true) (On ∷ Off ∷ Same ∷ Opposite ∷ OnIf ∷ OffIfNot ∷ [])
+    ≡ Some true ∷ Some false ∷ Some true ∷ Some false ∷ Some true ∷ None ∷ []
+asked_on = refl
+
+asked_off : map (λ a. asked a false) (On ∷ Off ∷ Same ∷ Opposite ∷ OnIf ∷ OffIfNot ∷ [])
+    ≡ Some true ∷ Some false ∷ Some false ∷ Some true ∷ None ∷ Some false ∷ []
+asked_off = refl
+
+look_at_parent : map asks_parent (On ∷ Off ∷ Same ∷ Opposite ∷ OnIf ∷ OffIfNot ∷ []) ≡ false ∷ false ∷ true ∷ true ∷ true ∷ true ∷ []
+look_at_parent = refl
+
+blockers : map is_blocker (No ∷ Weak ∷ Strong ∷ []) ≡ false ∷ true ∷ true ∷ []
+blockers = refl
 
 -- what is read is written again
 abbrev again : List ℕ → Option (List ℕ)

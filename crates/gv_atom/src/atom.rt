@@ -1,44 +1,59 @@
 //! An atom, as it was written.
 ghost use Rattle.std.specs.Prelude.{◌≡◌, IfOk};
+ghost use Rattle.gv_atom.specs.UseItems.{is_blocker};
 
 use crate::UseItems;
-use crate::naming::version_of;
 use gv_base::{NoMemory, Text};
 use gv_version::Version;
 use std::alloc::Global;
 
-/// Whether the atom blocks: not, by `!`, or by `!!`.
+/// Whether the atom blocks.
 #[derive(Clone, Copy, Debug)]
 pub enum Block {
+    /// Nothing is written: the atom asks for a package.
     No,
+    /// `!`
     Weak,
+    /// `!!`
     Strong,
 }
 
-/// An operator: `<`, `<=`, `=`, `~`, `>=`, `>`.
+/// An operator.
 #[derive(Clone, Copy, Debug)]
 pub enum CompareOp {
+    /// `<`
     Less,
+    /// `<=`
     LessEqual,
+    /// `=`, with a star behind the version or without.
     Equal,
+    /// `~`: equal, both revisions left out.
     Same,
+    /// `>=`
     GreaterEqual,
+    /// `>`
     Greater,
 }
 
-/// What a slot part asks for: any slot, a slot, or a slot and its sub-slot.
+/// What a slot part asks for.
 #[derive(Drop)]
 pub enum SlotNeed {
+    /// Any slot, also where no slot part is written.
     Any,
+    /// A slot, with any sub-slot.
     Slot { slot: Text },
+    /// A slot and its sub-slot.
     Both { slot: Text, sub: Text },
 }
 
-/// The mark of a slot part as it was written: `*` alone, `=` at the end, or none.
+/// The mark of a slot part as it was written.
 #[derive(Clone, Copy, Debug)]
 pub enum SlotMark {
+    /// None.
     Plain,
+    /// `:*`
     Star,
+    /// `=` at the end.
     Equals,
 }
 
@@ -46,9 +61,12 @@ pub enum SlotMark {
 #[derive(Drop)]
 pub struct Atom {
     pub block: Block,
+    /// None where a package of any version is asked for.
     pub op: Option<CompareOp>,
     pub category: Text,
+    /// The package's name, without a version.
     pub name: Text,
+    /// There where the operator is.
     pub version: Option<Version>,
     /// `*` behind the version.
     pub star: bool,
@@ -79,12 +97,22 @@ fn copy_version(alloc: Global, version: &Option<Version>) -> Result<Option<Versi
     ensures { IfOk result (λ copy. copy ≡ version.now) }
 {
     match version {
-        Some(version) => Ok(Some(version_of(alloc, version.text())?)),
+        Some(version) => Ok(Some(version.copy(alloc)?)),
         None => Ok(None),
     }
 }
 
 impl Atom {
+    /// Whether the atom blocks packages, and asks for none.
+    pub fn is_blocker(&self) -> bool
+        ensures { result ≡ is_blocker self.now.block }
+    {
+        match self.block {
+            Block::No => false,
+            Block::Weak | Block::Strong => true,
+        }
+    }
+
     /// The same atom once more. O(bytes).
     pub fn copy(&self, alloc: Global) -> Result<Atom, NoMemory>
         ensures { IfOk result (λ atom. atom ≡ self.now) }

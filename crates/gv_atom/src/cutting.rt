@@ -1,27 +1,18 @@
 //! Cutting bytes in two. O(bytes), without memory.
 ghost use Rattle.std.specs.Prelude.{◌≡◌, ◌+◌, ◌≤◌, ◌==◌, [], ◌∷◌, length, IfSome, MatchOption};
-ghost use Rattle.std.specs.List.{position_or_len, slice_split};
+ghost use Rattle.std.specs.List.{slice_split};
 ghost use Rattle.gv_base.specs.Cut.{ends_in, from_first, up_to_first, without_last};
 
-fn place_of(byte: u8, bytes: &[u8]) -> usize
-    ensures place { result ≡ position_or_len (λ b. b == byte) bytes.now }
-    ensures within { result ≤ length bytes.now }
-{
-    for (at, b) in bytes.iter().enumerate() {
-        if *b == byte {
-            return at;
-        }
-    }
-    bytes.len()
-}
+use gv_base::until;
 
 /// The bytes before the first such byte, and those from it on.
+#[tactic(auto, using(crate::proofs::Ends::front_length, crate::proofs::Ends::front_within))]
 pub(crate) fn cut(byte: u8, bytes: &[u8]) -> (&[u8], &[u8])
     ensures front { result.0.now ≡ up_to_first byte bytes.now }
     ensures rest { result.1.now ≡ from_first byte bytes.now }
     ensures lengths { length result.0.now + length result.1.now ≡ length bytes.now }
 {
-    bytes.split_at(place_of(byte, bytes))
+    bytes.split_at(until(bytes, byte).len())
 }
 
 /// The bytes before the first such byte, and those behind it, where there is one.

@@ -3,15 +3,22 @@ ghost use Rattle.std.specs.Prelude.{Some};
 ghost use Rattle.gv_atom.specs.AtomReading.{IsPartFault};
 
 use gv_base::NoMemory;
+use std::alloc::AllocError;
 
 /// The part of an atom that is bad.
 #[derive(Clone, Copy, Debug)]
 pub enum AtomKind {
+    /// No slash, or no good category before it.
     Category,
+    /// Without an operator: what follows the slash is no package name.
     Package,
+    /// With an operator: what follows the slash is no PF.
     Version,
+    /// A repository behind `::`.
     Repo,
+    /// The slot part.
     Slot,
+    /// A USE item, or the brackets around the items.
     Item,
 }
 
@@ -20,6 +27,7 @@ pub enum AtomKind {
 pub enum AtomFault {
     /// They are no atom: which part is bad, and the place in the bytes where that part begins, from 0.
     Bad { kind: AtomKind, at: u32 },
+    /// No memory was found, or the place is past 32 bits.
     NoMemory,
 }
 
@@ -30,6 +38,17 @@ impl From<NoMemory> for AtomFault {
     ghost from_gives = { λ _ fault. fault ≡ NoMemory };
 
     fn from(_refused: NoMemory) -> AtomFault {
+        AtomFault::NoMemory
+    }
+}
+
+impl From<AllocError> for AtomFault {
+    ghost use Rattle.std.specs.Prelude.{◌≡◌};
+    ghost use Rattle.gv_atom.specs.declared.fault.AtomFault.TheVariants.{NoMemory};
+
+    ghost from_gives = { λ _ fault. fault ≡ NoMemory };
+
+    fn from(_refused: AllocError) -> AtomFault {
         AtomFault::NoMemory
     }
 }

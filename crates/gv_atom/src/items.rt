@@ -1,19 +1,26 @@
 //! The USE items of an atom.
 ghost use Rattle.std.specs.Prelude.{◌≡◌, [], ◌∷◌, ◌++◌, IfOk, OnOk, OnErr};
+ghost use Rattle.gv_atom.specs.UseItems.{asked, asks_parent};
 
 use gv_base::{NoMemory, Text};
 use std::alloc::Global;
 use std::marker::Model;
 
-/// What an item asks of a flag of the candidate: `f`, `-f`, `f=`, `!f=`, `f?`, `!f?`. The last four look at the flag of
-/// the same name of the package that has the atom.
+/// What an item asks of a flag of the candidate. The last four look at the parent's flag: that of the same name of the
+/// package that has the atom.
 #[derive(Clone, Copy, Debug)]
 pub enum Ask {
+    /// `f`
     On,
+    /// `-f`
     Off,
+    /// `f=`: as the parent's flag is.
     Same,
+    /// `!f=`: as the parent's flag is not.
     Opposite,
+    /// `f?`: on where the parent's flag is on, else nothing.
     OnIf,
+    /// `!f?`: off where the parent's flag is off, else nothing.
     OffIfNot,
 }
 
@@ -39,6 +46,34 @@ impl Model for UseItems {
     ghost Value = { List UseItem };
 
     ghost view = { λ u. u.items.items };
+}
+
+impl Ask {
+    /// Whether what is asked depends on the parent's flag.
+    pub fn asks_parent(self) -> bool
+        ensures { result ≡ asks_parent self }
+    {
+        match self {
+            Ask::On | Ask::Off => false,
+            Ask::Same | Ask::Opposite | Ask::OnIf | Ask::OffIfNot => true,
+        }
+    }
+
+    /// What is asked of the candidate's flag, if anything, where the parent's flag is on or off.
+    pub fn asked(self, parent: bool) -> Option<bool>
+        ensures { result ≡ asked self parent }
+    {
+        match (self, parent) {
+            (Ask::On, _) => Some(true),
+            (Ask::Off, _) => Some(false),
+            (Ask::Same, _) => Some(parent),
+            (Ask::Opposite, _) => Some(!parent),
+            (Ask::OnIf, true) => Some(true),
+            (Ask::OnIf, false) => None,
+            (Ask::OffIfNot, true) => None,
+            (Ask::OffIfNot, false) => Some(false),
+        }
+    }
 }
 
 impl UseItem {
@@ -73,6 +108,7 @@ impl UseItems {
         Ok(())
     }
 
+    /// The items, in order.
     pub fn items(&self) -> &[UseItem]
         ensures { result.now ≡ self.now }
     {

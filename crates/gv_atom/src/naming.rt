@@ -9,7 +9,7 @@ use crate::dividing::Division;
 use crate::fault::bad;
 use crate::{AtomFault, AtomKind, CompareOp};
 use gv_base::{NoMemory, Text};
-use gv_version::{Version, is_category, is_package, read_version, split_pf, split_pf_law};
+use gv_version::{Version, is_category, is_package, split_pf, split_pf_law};
 use std::alloc::Global;
 
 /// What the name part says.
@@ -52,16 +52,6 @@ fn split_star(op: Option<CompareOp>, text: &[u8]) -> (&[u8], bool)
     }
 }
 
-/// The version with this text. One that has its form is refused for want of memory alone.
-pub(crate) fn version_of(alloc: Global, bytes: &[u8]) -> Result<Version, NoMemory>
-    ensures { IfOk result (λ version. version ≡ bytes.now) }
-{
-    match read_version(alloc, bytes) {
-        Ok(version) => Ok(version),
-        Err(_) => Err(NoMemory),
-    }
-}
-
 // A name without a version.
 fn read_name(alloc: Global, at: usize, text: &[u8]) -> Result<Tail, AtomFault>
     ensures tail { IfOk result (IsTail None at text.now) }
@@ -101,7 +91,7 @@ fn read_pf(alloc: Global, at: usize, pf: &[u8]) -> Result<Tail, AtomFault>
             let (name, version) = split_hyphen(pf, hyphen as usize);
             Ok(Tail {
                 name: Text::of(alloc, name)?,
-                version: Some(version_of(alloc, version)?),
+                version: Some(Version::of(alloc, version)?),
             })
         }
         None => Err(bad(AtomKind::Version, at)),

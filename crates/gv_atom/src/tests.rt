@@ -322,8 +322,61 @@ fn atoms_match_by_name_operator_and_slot(rt: HostRuntime) -> Result<(), Fail> {
         let slot = text(&rt, rt.alloc(), words.next().ok_or("slot")?);
         let sub = text(&rt, rt.alloc(), words.next().ok_or("sub-slot")?);
         let found = matches(&atom, &category, &name, &version, &slot, &sub);
-        assert_eq!(rt; found, sign == "+", "{line}");
+        let want = match sign {
+            "+" => true,
+            "-" => false,
+            _ => return Err("an atom matches or not".into()),
+        };
+        assert!(rt; found == want, "{line}");
     }
+    Ok(())
+}
+
+/// An item, and what it asks where the parent's flag is on and where it is off.
+const ASKED: &str = "\
+f on on\n\
+-f off off\n\
+f= on off\n\
+!f= off on\n\
+f? on nothing\n\
+!f? nothing off\n\
+f(+) on on\n\
+!f(-)? nothing off";
+
+fn asked_word(asked: Option<bool>) -> &'static str {
+    match asked {
+        Some(true) => "on",
+        Some(false) => "off",
+        None => "nothing",
+    }
+}
+
+fn asked_item<R: Abort>(rt: &R, alloc: Global, item: &str) -> UseItem {
+    let mut line = text(rt, alloc, "x/y[");
+    line.append(item.as_bytes()).expect(rt, "memory");
+    line.append(b"]").expect(rt, "memory");
+    let atom = read_atom(alloc, line.bytes()).expect(rt, "an atom");
+    let first = atom.items.items().first().expect(rt, "an item");
+    first.copy(alloc).expect(rt, "memory")
+}
+
+#[test]
+fn items_ask_and_blockers_block(rt: HostRuntime) -> Result<(), Fail> {
+    let mut items = UseItems::new(rt.alloc());
+    for line in ASKED.lines() {
+        let mut words = line.split(' ');
+        let item = asked_item(&rt, rt.alloc(), words.next().ok_or("item")?);
+        let on = words.next().ok_or("on")?;
+        let off = words.next().ok_or("off")?;
+        assert!(rt; asked_word(item.ask.asked(true)) == on, "{line}");
+        assert!(rt; asked_word(item.ask.asked(false)) == off, "{line}");
+        assert!(rt; item.ask.asks_parent() == (on != off), "{line}");
+        items.add(item).expect(&rt, "memory");
+    }
+    assert_eq!(rt; items.items().len(), 8);
+    assert!(rt; !read(&rt, rt.alloc(), "x/y").is_blocker());
+    assert!(rt; read(&rt, rt.alloc(), "!x/y").is_blocker());
+    assert!(rt; read(&rt, rt.alloc(), "!!<x/y-1").is_blocker());
     Ok(())
 }
 
