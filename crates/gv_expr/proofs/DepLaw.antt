@@ -23,12 +23,12 @@ atoms_read written (more (any items) ts) depth good = (atoms_read written items 
 atoms_read written (more (when flag negated items) ts) depth good = (atoms_read written items (depth + 1) good.2, atoms_read written ts depth good.3)
 
 -- what a reader found no fault in is that dependency
-is_of : (bytes : List ℕ) (ts : List Dep) → dep_tokens (deps ts) ≡ tokens_of bytes → are_atoms (deps ts) ≡ true → first_fault dependency (tokens_of bytes) ≡ None → IsDepOf bytes ts
+pub is_of : (bytes : List ℕ) (ts : List Dep) → dep_tokens (deps ts) ≡ tokens_of bytes → are_atoms (deps ts) ≡ true → first_fault dependency (tokens_of bytes) ≡ None → IsDepOf bytes ts
 is_of bytes ts same good none =
     let h = no_fault (deps ts) good (ap (first_fault dependency) same ∙ none) in
     record { good = h.0; few = h.1; written = same }
 
-is_read : AreWritten → (bytes : List ℕ) (ts : List Dep) → IsDepOf bytes ts → read_dep bytes ≡ Some ts
+pub is_read : AreWritten → (bytes : List ℕ) (ts : List Dep) → IsDepOf bytes ts → read_dep bytes ≡ Some ts
 is_read written bytes ts is =
     let none : first_fault dependency (tokens_of bytes) ≡ None = ap (first_fault dependency) (sym is.written) ∙ has_no_fault written (deps ts) is.good is.few in
     let trees : listed (top (dep_groups (tokens_of bytes))) ≡ ts = ap (λ x. listed (top (dep_groups x))) (sym is.written) ∙ read_again ts (atoms_read written (deps ts) 0 is.good) in

@@ -4,7 +4,8 @@ use Rattle.gv_atom.specs.AtomText.{atom_text}
 use Rattle.gv_atom.specs.AtomRead.{read_atom}
 use Rattle.gv_expr.specs.declared.token.Token.{Token}
 use Rattle.gv_expr.specs.declared.token.Token.TheVariants as tokens
-use Rattle.gv_expr.specs.Dep.{Dep, Deps, leaf, all, any, when, end, more, deps, listed, listed-deps, top}
+use Rattle.gv_expr.specs.Dep.{Dep, Deps, leaf, all, any, when, end, more, deps, listed, top}
+use Rattle.gv_expr.specs.DepStored.{listed-deps}
 use Rattle.gv_expr.specs.DepGrammar.{dep_tokens}
 use Rattle.gv_expr.specs.DepRead.{dep_groups, with_leaf, with_group}
 

@@ -1,17 +1,21 @@
-pub mod Bools
-pub mod DepFaults
-pub mod DepLaw
-pub mod DepReadAgain
-pub mod DepSteps
-pub mod Examples
-pub mod Faults
-pub mod Limits
-pub mod ReqFaults
-pub mod ReqLaw
-pub mod ReqReadAgain
-pub mod ReqSteps
-pub mod Signs
-pub mod SpacedLemmas
-pub mod Steps
-pub mod TokensAgain
-pub mod WordsAgain
+mod Bools
+mod DepFaults
+mod DepFound
+mod DepLaw
+mod DepReadAgain
+mod DepSteps
+mod Depths
+mod Examples
+mod Faults
+mod Groups
+mod Limits
+mod ReqFaults
+mod ReqFound
+mod ReqLaw
+mod ReqReadAgain
+mod ReqSteps
+mod Signs
+mod SpacedLemmas
+mod Steps
+mod TokensAgain
+mod WordsAgain

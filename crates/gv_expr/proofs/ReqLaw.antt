@@ -16,12 +16,12 @@ use Rattle.gv_expr.proofs.ReqReadAgain.{read_again}
 use Rattle.gv_expr.proofs.ReqFaults.{no_fault, has_no_fault}
 
 -- what a reader found no fault in is that REQUIRED_USE
-is_of : (bytes : List ℕ) (ts : List Req) → req_tokens (reqs ts) ≡ tokens_of bytes → are_flags (reqs ts) ≡ true → first_fault required_use (tokens_of bytes) ≡ None → IsReqOf bytes ts
+pub is_of : (bytes : List ℕ) (ts : List Req) → req_tokens (reqs ts) ≡ tokens_of bytes → are_flags (reqs ts) ≡ true → first_fault required_use (tokens_of bytes) ≡ None → IsReqOf bytes ts
 is_of bytes ts same good none =
     let h = no_fault (reqs ts) good (ap (first_fault required_use) same ∙ none) in
     record { good = h.0; few = h.1; written = same }
 
-is_read : (bytes : List ℕ) (ts : List Req) → IsReqOf bytes ts → read_required bytes ≡ Some ts
+pub is_read : (bytes : List ℕ) (ts : List Req) → IsReqOf bytes ts → read_required bytes ≡ Some ts
 is_read bytes ts is =
     let none : first_fault required_use (tokens_of bytes) ≡ None = ap (first_fault required_use) (sym is.written) ∙ has_no_fault (reqs ts) is.good is.few in
     let trees : listed (top (req_groups (tokens_of bytes))) ≡ ts = ap (λ x. listed (top (req_groups x))) (sym is.written) ∙ read_again ts is.good in

@@ -1,4 +1,4 @@
--- Whether each leaf of an expression is an atom, or a flag.
+-- Whether each leaf of an expression is an atom, or a flag: for the contracts of private functions.
 use Rattle.std.specs.Prelude.{Bool, true, ◌&&◌}
 use Rattle.gv_version.specs.Names.{is_flag}
 use Rattle.gv_atom.specs.AtomText.{is_atom}

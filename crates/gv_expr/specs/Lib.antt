@@ -2,8 +2,10 @@ pub mod Dep
 pub mod DepFalls
 pub mod DepGrammar
 pub mod DepRead
+pub mod DepStored
 pub mod DepView
 pub mod ExprFaults
+pub mod Laws
 pub mod Leaves
 pub mod Mentioned
 pub mod ReaderState
@@ -11,6 +13,7 @@ pub mod Req
 pub mod ReqFalls
 pub mod ReqGrammar
 pub mod ReqRead
+pub mod ReqStored
 pub mod ReqView
 pub mod Spaced
 pub mod TokenFaults

@@ -1,4 +1,4 @@
--- What a reader has read so far, and the tokens that its fields stand for.
+-- What a reader has read so far, and the tokens that its fields stand for: for the contracts of private functions.
 use Rattle.std.specs.Prelude.{◌≡◌, ℕ, Bool, true, false, ◌&&◌, if◌then◌else◌, List, [], ◌∷◌, ◌++◌, length, Option, Some}
 use Rattle.std.specs.List.{list_all}
 use Rattle.gv_version.specs.Names.{is_flag}

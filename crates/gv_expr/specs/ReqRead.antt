@@ -1,4 +1,5 @@
--- The trees of tokens that have no fault, from the last token to the first: a list for each open group.
+-- The trees of tokens that have no fault, from the last token to the first: a list for each open group. Where the tokens
+-- have a fault, what `req_groups` gives means nothing: it passes over what doesn't fit.
 use Rattle.std.specs.Prelude.{ℕ, is_none, if◌then◌else◌, List, [], ◌∷◌, Option, None, Some}
 use Rattle.gv_expr.specs.declared.token.Token.{Token}
 use Rattle.gv_expr.specs.declared.token.Token.TheVariants as tokens

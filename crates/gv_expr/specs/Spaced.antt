@@ -1,4 +1,4 @@
--- Tokens with a space before each.
+-- Tokens with a space before each, as the program prints them: for the contracts of private functions.
 use Rattle.std.specs.Prelude.{ℕ, List, map}
 use Rattle.gv_base.specs.Words.{each_behind}
 use Rattle.gv_expr.specs.declared.token.Token.{Token}

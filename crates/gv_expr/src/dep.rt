@@ -1,6 +1,6 @@
 //! Dependencies (PMS chapter 8) as trees, and what the reader of tokens needs to know of them.
-ghost use Rattle.std.specs.Prelude.{◌≡◌, ◌∷◌, [], ◌++◌, Some, true, IfOk, OnOk, OnErr};
-ghost use Rattle.gv_expr.specs.Dep.{deps, end, more};
+ghost use Rattle.std.specs.Prelude.{◌≡◌, ◌≤◌, ◌∷◌, [], ◌++◌, Some, true, IfOk, OnOk, OnErr};
+ghost use Rattle.gv_expr.specs.Dep.{deps, depth_of, end, more};
 ghost use Rattle.gv_expr.specs.DepGrammar.{dep_tokens};
 ghost use Rattle.gv_expr.specs.DepView.{dep_of, view_of};
 ghost use Rattle.gv_expr.specs.Leaves.{are_atoms};
@@ -9,7 +9,7 @@ ghost use Rattle.gv_expr.specs.declared.fault.ExprKind.TheVariants.{NotHere};
 ghost use Rattle.gv_expr.specs.declared.token.Token.TheVariants.{Open, Close};
 
 use crate::ExprKind;
-use crate::grammar::{Grammar, Head, StepFault};
+use crate::grammar::{Grammar, Head, MOST_GROUPS, StepFault, larger};
 use gv_atom::{Atom, AtomFault, read_atom};
 use gv_base::{NoMemory, Text};
 use std::alloc::Global;
@@ -39,16 +39,18 @@ pub enum DepTree {
     },
 }
 
-/// A dependency: its top trees, in the order in which they stand.
+/// A dependency: its top trees, in the order in which they stand. At most 64 groups stand in one another.
 #[cycle(dep)]
 #[derive(Drop)]
 pub struct DepExpr {
     pub items: Vec<DepTree>,
+    depth: u32,
 }
 
 impl Model for DepExpr {
-    ghost use Rattle.std.specs.Prelude.{List};
-    ghost use Rattle.gv_expr.specs.Dep.{Dep, deps_code, size_of};
+    ghost use Rattle.std.specs.Prelude.{◌≡◌, ◌≤◌, List};
+    ghost use Rattle.gv_expr.specs.Dep.{Dep, deps, depth_of};
+    ghost use Rattle.gv_expr.specs.DepStored.{deps_code, size_of};
 
     ghost Value = { List Dep };
 
@@ -57,6 +59,8 @@ impl Model for DepExpr {
     ghost use Rattle.gv_expr.specs.DepView.{view_of};
 
     ghost view = { λ e. view_of e.items.items };
+
+    ghost invariant = { λ e. (e.depth ≡ depth_of (deps (view_of e.items.items))) × (e.depth ≤ 64) };
 
     ghost size = { size_of };
 
@@ -72,18 +76,34 @@ impl DepExpr {
     {
         DepExpr {
             items: Vec::new(alloc),
+            depth: 0,
         }
     }
 
-    /// Adds a tree at the end. After an error the expression is unchanged.
+    /// Adds a tree at the end. After an error the expression is unchanged. Where 64 groups stand in one another inside of a
+    /// group, no memory is given.
     pub fn add(&mut self, item: DepTree) -> Result<(), NoMemory>
         ensures ok { OnOk result (self.new ≡ self.old ++ dep_of item ∷ []) }
         ensures err { OnErr result (self.new ≡ self.old) }
     {
+        let depth = item.depth();
+        if depth > MOST_GROUPS {
+            return Err(NoMemory);
+        }
         self.items.push(item)?;
+        self.depth = larger(self.depth, depth);
         Ok(())
     }
 
+    /// How many groups stand in one another at most.
+    pub fn depth(&self) -> u32
+        ensures depth { result ≡ depth_of (deps self.now) }
+        ensures most { result ≤ 64 }
+    {
+        self.depth
+    }
+
+    /// The top trees, in order.
     pub fn items(&self) -> &[DepTree]
         ensures { view_of result.now ≡ self.now }
     {
@@ -140,6 +160,18 @@ impl Grammar for DepExpr {
 }
 
 impl DepTree {
+    // How many groups stand in one another at most, the tree's own among them.
+    fn depth(&self) -> u32
+        ensures { result ≡ depth_of (deps (dep_of self.now ∷ [])) }
+    {
+        match self {
+            DepTree::Leaf { .. } => 0,
+            DepTree::All { items } | DepTree::Any { items } | DepTree::If { items, .. } => {
+                items.depth() + 1
+            }
+        }
+    }
+
     // The group of these trees, behind what stands before its `(`.
     #[tactic(auto, using(crate::proofs::DepSteps::group_leaves))]
     fn group(head: Head, items: DepExpr) -> DepTree

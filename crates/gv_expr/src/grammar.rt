@@ -1,5 +1,5 @@
 //! What the reader of tokens asks of a language of expressions: what a leaf is, and how a closed group becomes a tree.
-ghost use Rattle.std.specs.Prelude.{◌≡◌, ◌∷◌, [], ◌++◌, Bool, true, ◌&&◌, List, None, IfErr, OnOk, OnErr};
+ghost use Rattle.std.specs.Prelude.{◌≡◌, ◌∷◌, [], ◌++◌, Bool, true, ◌&&◌, List, max, None, IfErr, OnOk, OnErr};
 ghost use Rattle.gv_expr.specs.ReaderState.{head_tokens, is_allowed, is_there, StepFails};
 ghost use Rattle.gv_expr.specs.TokenFaults.{Language};
 ghost use Rattle.gv_expr.specs.declared.token.Token.{Token};
@@ -8,6 +8,16 @@ ghost use Rattle.gv_expr.specs.declared.token.Token.TheVariants.{Open, Close, Wo
 use crate::ExprKind;
 use gv_base::{NoMemory, Text};
 use std::alloc::Global;
+
+/// The most groups that stand in one another, and that may be open while an expression is read.
+pub const MOST_GROUPS: u32 = 64;
+
+/// The larger number.
+pub fn larger(a: u32, b: u32) -> u32
+    ensures { result ≡ max a b }
+{
+    if a < b { b } else { a }
+}
 
 /// What stands before a group's `(`: nothing, `||`, `^^`, `??` or a conditional.
 #[derive(Drop)]

@@ -1,6 +1,5 @@
 //! The flags that an expression mentions. O(n log n) comparisons of flags for n mentions.
 ghost use Rattle.std.specs.Prelude.{◌≡◌, ◌++◌, [], ◌∷◌, IfOk, OnOk};
-ghost use Rattle.gv_atom.specs.UseItems.{asks_parent};
 ghost use Rattle.gv_atom.specs.declared.atom.Block.TheVariants.{No};
 ghost use Rattle.gv_expr.specs.Dep.{deps};
 ghost use Rattle.gv_expr.specs.DepView.{dep_of};
@@ -9,7 +8,7 @@ ghost use Rattle.gv_expr.specs.Req.{reqs};
 ghost use Rattle.gv_expr.specs.ReqView.{req_of};
 
 use crate::{DepExpr, DepTree, UseExpr, UseTree};
-use gv_atom::{Ask, Atom, Block, UseItem};
+use gv_atom::{Atom, Block, UseItem};
 use gv_base::{NoMemory, Texts};
 use std::alloc::Global;
 
@@ -32,20 +31,11 @@ pub fn mentioned_required(alloc: Global, items: &UseExpr) -> Result<Texts, NoMem
     flags.in_order(alloc)
 }
 
-fn asks_parent(ask: Ask) -> bool
-    ensures { result ≡ asks_parent ask }
-{
-    match ask {
-        Ask::On | Ask::Off => false,
-        Ask::Same | Ask::Opposite | Ask::OnIf | Ask::OffIfNot => true,
-    }
-}
-
 fn add_items(alloc: Global, items: &[UseItem], flags: &mut Texts) -> Result<(), NoMemory>
     ensures { OnOk result (flags.new ≡ flags.old ++ item_mentions No items.now) }
 {
     for item in items {
-        if !asks_parent(item.ask) {
+        if !item.ask.asks_parent() {
             continue;
         }
         flags.add(item.flag.copy(alloc)?)?;

@@ -4,16 +4,13 @@ ghost use Rattle.gv_version.specs.Names.{is_flag};
 ghost use Rattle.gv_expr.specs.ReaderState.{after, begun, fault_of_head, flag_fault, is_allowed, nothing, StepFails};
 ghost use Rattle.gv_expr.specs.TokenFaults.{fault_of};
 
-use crate::grammar::{Grammar, Head, StepFault};
+use crate::grammar::{Grammar, Head, MOST_GROUPS, StepFault};
 use crate::{ExprKind, Token};
 use gv_base::Text;
 use gv_version::is_flag;
 use std::alloc::Global;
 use std::marker::Model;
 use std::mem;
-
-/// The most groups that may be open.
-const MOST_GROUPS: usize = 64;
 
 /// An open group: what stands before its `(`, and the trees before that.
 #[derive(Drop)]
@@ -88,7 +85,7 @@ impl<E: Grammar> Reader<E> {
         ensures after { OnOk result (self.new ≡ after self.old Token.Open) }
         ensures bad { IfErr result (StepFails (fault_of E.language Token.Open self.old.head self.old.depth)) }
     {
-        if self.stack.len() >= MOST_GROUPS {
+        if self.stack.len() >= MOST_GROUPS as usize {
             return Err(StepFault::Fault(ExprKind::Depth));
         }
         let head = mem::replace(&mut self.head, Head::Nothing);

@@ -1,14 +1,14 @@
 //! REQUIRED_USE (PMS chapter 7) as trees, and what the reader of tokens needs to know of it.
-ghost use Rattle.std.specs.Prelude.{◌≡◌, ◌∷◌, [], ◌++◌, IfOk, OnOk, OnErr};
+ghost use Rattle.std.specs.Prelude.{◌≡◌, ◌≤◌, ◌∷◌, [], ◌++◌, IfOk, OnOk, OnErr};
 ghost use Rattle.gv_expr.specs.Leaves.{are_flags};
 ghost use Rattle.gv_expr.specs.ReaderState.{head_tokens};
-ghost use Rattle.gv_expr.specs.Req.{reqs, end, more};
+ghost use Rattle.gv_expr.specs.Req.{reqs, depth_of, end, more};
 ghost use Rattle.gv_expr.specs.ReqGrammar.{req_tokens};
 ghost use Rattle.gv_expr.specs.ReqView.{req_of, view_of};
 ghost use Rattle.gv_expr.specs.declared.token.Token.TheVariants.{Open, Close};
 
 use crate::ExprKind;
-use crate::grammar::{Grammar, Head, StepFault};
+use crate::grammar::{Grammar, Head, MOST_GROUPS, StepFault, larger};
 use crate::token::split_sign;
 use gv_base::{NoMemory, Text};
 use gv_version::is_flag;
@@ -48,16 +48,18 @@ pub enum UseTree {
     },
 }
 
-/// A REQUIRED_USE: its top trees, in the order in which they stand.
+/// A REQUIRED_USE: its top trees, in the order in which they stand. At most 64 groups stand in one another.
 #[cycle(required)]
 #[derive(Drop)]
 pub struct UseExpr {
     pub items: Vec<UseTree>,
+    depth: u32,
 }
 
 impl Model for UseExpr {
-    ghost use Rattle.std.specs.Prelude.{List};
-    ghost use Rattle.gv_expr.specs.Req.{Req, reqs_code, size_of};
+    ghost use Rattle.std.specs.Prelude.{◌≡◌, ◌≤◌, List};
+    ghost use Rattle.gv_expr.specs.Req.{Req, reqs, depth_of};
+    ghost use Rattle.gv_expr.specs.ReqStored.{reqs_code, size_of};
 
     ghost Value = { List Req };
 
@@ -66,6 +68,8 @@ impl Model for UseExpr {
     ghost use Rattle.gv_expr.specs.ReqView.{view_of};
 
     ghost view = { λ e. view_of e.items.items };
+
+    ghost invariant = { λ e. (e.depth ≡ depth_of (reqs (view_of e.items.items))) × (e.depth ≤ 64) };
 
     ghost size = { size_of };
 
@@ -81,18 +85,34 @@ impl UseExpr {
     {
         UseExpr {
             items: Vec::new(alloc),
+            depth: 0,
         }
     }
 
-    /// Adds a tree at the end. After an error the expression is unchanged.
+    /// Adds a tree at the end. After an error the expression is unchanged. Where 64 groups stand in one another inside of a
+    /// group, no memory is given.
     pub fn add(&mut self, item: UseTree) -> Result<(), NoMemory>
         ensures ok { OnOk result (self.new ≡ self.old ++ req_of item ∷ []) }
         ensures err { OnErr result (self.new ≡ self.old) }
     {
+        let depth = item.depth();
+        if depth > MOST_GROUPS {
+            return Err(NoMemory);
+        }
         self.items.push(item)?;
+        self.depth = larger(self.depth, depth);
         Ok(())
     }
 
+    /// How many groups stand in one another at most.
+    pub fn depth(&self) -> u32
+        ensures depth { result ≡ depth_of (reqs self.now) }
+        ensures most { result ≤ 64 }
+    {
+        self.depth
+    }
+
+    /// The top trees, in order.
     pub fn items(&self) -> &[UseTree]
         ensures { view_of result.now ≡ self.now }
     {
@@ -148,6 +168,20 @@ impl Grammar for UseExpr {
 }
 
 impl UseTree {
+    // How many groups stand in one another at most, the tree's own among them.
+    fn depth(&self) -> u32
+        ensures { result ≡ depth_of (reqs (req_of self.now ∷ [])) }
+    {
+        match self {
+            UseTree::Leaf { .. } => 0,
+            UseTree::All { items }
+            | UseTree::Any { items }
+            | UseTree::One { items }
+            | UseTree::Most { items }
+            | UseTree::If { items, .. } => items.depth() + 1,
+        }
+    }
+
     // The group of these trees, behind what stands before its `(`.
     #[tactic(auto, using(crate::proofs::ReqSteps::group_leaves))]
     fn group(head: Head, items: UseExpr) -> UseTree

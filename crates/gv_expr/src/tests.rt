@@ -1,8 +1,8 @@
 //! Which texts are expressions, where the others are at fault, and what is told of those that are read. Each line of a
 //! table is one case; the answers were made by hand from the table of faults.
 use crate::{
-    DepExpr, ExprFault, ExprKind, UseExpr, mentioned_dep, mentioned_required, print_dep,
-    print_item, print_required, read_dep, read_required,
+    DepExpr, DepTree, ExprFault, ExprKind, UseExpr, UseTree, mentioned_dep, mentioned_required,
+    print_dep, print_item, print_required, read_dep, read_required,
 };
 use gv_base::Text;
 use std::alloc::Global;
@@ -337,6 +337,39 @@ fn sixty_four_groups(rt: HostRuntime) {
     deep(&rt, alloc, b"!a? ( ", 130, true);
     deep(&rt, alloc, b"^^ ( ", 130, false);
     deep(&rt, alloc, b"?? ( ", 130, false);
+}
+
+fn around<R: Abort>(rt: &R, alloc: Global, items: DepExpr) -> DepExpr {
+    let mut outer = DepExpr::new(alloc);
+    outer.add(DepTree::All { items }).expect(rt, "memory");
+    outer
+}
+
+fn around_required<R: Abort>(rt: &R, alloc: Global, items: UseExpr) -> UseExpr {
+    let mut outer = UseExpr::new(alloc);
+    outer.add(UseTree::Most { items }).expect(rt, "memory");
+    outer
+}
+
+#[test]
+fn no_group_is_added_around_sixty_four(rt: HostRuntime) {
+    let alloc = rt.alloc();
+    let mut items = DepExpr::new(alloc);
+    let mut required = UseExpr::new(alloc);
+    for depth in 1..65u32 {
+        items = around(&rt, alloc, items);
+        required = around_required(&rt, alloc, required);
+        assert!(rt;
+            items.depth() == depth && required.depth() == depth,
+            "{depth}"
+        );
+    }
+    let mut outer = DepExpr::new(alloc);
+    assert!(rt; outer.add(DepTree::Any { items }).is_err());
+    assert!(rt; outer.items().is_empty() && outer.depth() == 0);
+    let mut outer = UseExpr::new(alloc);
+    assert!(rt; outer.add(UseTree::One { items: required }).is_err());
+    assert!(rt; outer.items().is_empty() && outer.depth() == 0);
 }
 
 // The fault of this tail behind 100,000 tokens.
