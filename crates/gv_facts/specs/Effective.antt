@@ -10,7 +10,7 @@ use Rattle.gv_facts.specs.declared.value_lists.ValueList.{ValueList}
 abbrev pub values_of : List ValueList → List ℕ → List (List ℕ)
 values_of lists name = flat_map (λ l. l.words) (filter (λ l. bytes_eq l.name name) lists)
 
--- `python_targets_` and the word
+-- the name in small letters, `_` and the word, as `elibc_musl` for ELIBC and `musl`
 abbrev pub prefixed : (name word : List ℕ) → List ℕ
 prefixed name word = str_to_ascii_lowercase name ++ byte "_" ∷ word
 

@@ -1,4 +1,4 @@
--- What the indexes of the long lists hold.
+-- For invariants and the contracts of private functions: what the indexes of the long lists hold.
 use Rattle.std.specs.Prelude.{◌≡◌, ℕ, Bool, List, [], unwrap_or}
 use Rattle.std.specs.declared.vec.Vec.{Vec}
 use Rattle.std.specs.declared.alloc.Global.{Global}

@@ -1,13 +1,15 @@
 //! Packages and profiles as plain records, and what makes a package visible and a flag on.
 //!
-//! Stands on `gv_base`, `gv_version` and `gv_atom`. It has no algorithm: the layers above are proved against its
-//! definitions of effective flags, flag states, visible and judged packages and met atoms, which stand in `specs/` and
-//! speak of these records.
+//! Stands on `gv_base`, `gv_version` and `gv_atom`. The layers above are proved against its definitions of effective
+//! flags, flag states, visible and judged packages and met atoms, which stand in `specs/` and speak of these records. What
+//! computes here are the look-ups, and the two comparisons that several layers make.
 //!
 //! - `kinds`: EAPI, class, level, status, flag state; the keys of classes, and which an EAPI has.
 //! - `pkg`, `profile`, `value_lists`, `masks`, `rules`: the records and their lists. Contracts see a list type as a list.
 //! - `index`: what `Pkgs`, `Masks` and `Rules` keep beside their items, so that a look-up by name or flag goes through
 //!   the items that it finds and no others.
+//! - `visible`: whether an atom asks for a package, and whether keywords accept one.
+//! - `laws`: what the test of an atom's USE items means.
 #![tactic(auto)]
 
 mod index;
@@ -20,6 +22,7 @@ mod rules;
 #[cfg(test)]
 mod tests;
 mod value_lists;
+mod visible;
 
 pub use kinds::{Class, Context, Eapi, FlagState, Level, Status, class_text, has_class};
 pub use laws::meets_law;
@@ -28,3 +31,4 @@ pub use pkg::{Pkg, Pkgs};
 pub use profile::{Profile, Profiles};
 pub use rules::{Effect, Rule, Rules};
 pub use value_lists::{ValueList, ValueLists};
+pub use visible::{accepts, is_testing, matches_pkg};

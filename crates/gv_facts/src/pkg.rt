@@ -6,7 +6,7 @@ ghost use Rattle.gv_facts.specs.Values.{IsPkgValue};
 use crate::Eapi;
 use crate::index::{PairIndex, next_place};
 use gv_base::{NoMemory, Text, Texts};
-use gv_version::{Version, VersionFault, read_version};
+use gv_version::Version;
 use std::alloc::Global;
 use std::marker::Model;
 
@@ -30,16 +30,6 @@ pub struct Pkg {
     pub iuse_plus: Texts,
     /// Whether PROPERTIES has the word `live`.
     pub live: bool,
-}
-
-fn copy_version(alloc: Global, version: &Version) -> Result<Version, NoMemory>
-    ensures { IfOk result (λ copy. copy ≡ version.now) }
-{
-    match read_version(alloc, version.text()) {
-        Ok(copy) => Ok(copy),
-        Err(VersionFault::NoMemory) => Err(NoMemory),
-        Err(_) => unreachable!(),
-    }
 }
 
 impl Pkg {
@@ -66,7 +56,7 @@ impl Pkg {
         Ok(Pkg {
             category: self.category.copy(alloc)?,
             name: self.name.copy(alloc)?,
-            version: copy_version(alloc, &self.version)?,
+            version: self.version.copy(alloc)?,
             pf: self.pf.copy(alloc)?,
             eapi: self.eapi,
             slot: self.slot.copy(alloc)?,

@@ -1,7 +1,8 @@
 //! The long lists and their indexes, copies, and the classes of an EAPI, on records made by hand.
 use crate::{
     Class, Context, Eapi, Effect, Level, Mask, Masks, Pkg, Pkgs, Profile, Profiles, Rule, Rules,
-    Status, ValueList, ValueLists, class_text, has_class, meets_law,
+    Status, ValueList, ValueLists, accepts, class_text, has_class, is_testing, matches_pkg,
+    meets_law,
 };
 use gv_atom::{Atom, Block, SlotMark, SlotNeed, UseItems};
 use gv_base::{Text, Texts, words_of};
@@ -80,10 +81,9 @@ x y";
 fn pkgs<R: Abort>(rt: &R, alloc: Global) -> Pkgs {
     let mut pkgs = Pkgs::new(alloc);
     for line in NAMES.lines() {
-        if let Some((category, name)) = line.split_once(' ') {
-            pkgs.add(pkg(rt, alloc, category, name, line))
-                .expect(rt, "memory");
-        }
+        let (category, name) = line.split_once(' ').expect(rt, "a category and a name");
+        pkgs.add(pkg(rt, alloc, category, name, line))
+            .expect(rt, "memory");
     }
     pkgs
 }
@@ -91,11 +91,10 @@ fn pkgs<R: Abort>(rt: &R, alloc: Global) -> Pkgs {
 fn masks<R: Abort>(rt: &R, alloc: Global) -> Masks {
     let mut masks = Masks::new(alloc);
     for line in NAMES.lines() {
-        if let Some((category, name)) = line.split_once(' ') {
-            masks
-                .add(mask(rt, alloc, category, name))
-                .expect(rt, "memory");
-        }
+        let (category, name) = line.split_once(' ').expect(rt, "a category and a name");
+        masks
+            .add(mask(rt, alloc, category, name))
+            .expect(rt, "memory");
     }
     masks
 }
@@ -175,10 +174,9 @@ fn packages_are_copied(rt: HostRuntime) {
         item.tell();
     }
     assert_eq!(&rt; pkgs.places_of(b"x", b"y"), [0, 3, 7].as_slice());
-    let Some(first) = pkgs.items().first() else {
-        return;
-    };
-    is_pkg(&rt, alloc, first, "x y");
+    let first = pkgs.items().first().expect(&rt, "a package");
+    let first = first.copy(alloc).expect(&rt, "memory");
+    is_pkg(&rt, alloc, &first, "x y");
     same(&rt, &first.category, "x");
     same(&rt, &first.name, "y");
     meets_law();
@@ -241,12 +239,19 @@ fn profiles_are_copied(rt: HostRuntime) {
     let copy = profiles.copy(alloc).expect(&rt, "memory");
     assert_eq!(&rt; copy.items().len(), 1);
     for profile in copy.items() {
-        is_profile(&rt, alloc, profile);
+        let profile = profile.copy(alloc).expect(&rt, "memory");
+        is_profile(&rt, alloc, &profile);
         for mask in profile.masks.items() {
+            let mask = mask.copy(alloc).expect(&rt, "memory");
             same(&rt, &mask.text, "a line");
         }
         for rule in profile.rules.items() {
+            let rule = rule.copy(alloc).expect(&rt, "memory");
             assert!(&rt; rule.effect == Effect::Mask && rule.stable && rule.on);
+        }
+        for list in profile.values.items() {
+            let list = list.copy(alloc).expect(&rt, "memory");
+            same(&rt, &list.name, "ELIBC");
         }
     }
     let context = Context {
@@ -255,6 +260,18 @@ fn profiles_are_copied(rt: HostRuntime) {
     };
     let again = context.copy(alloc).expect(&rt, "memory");
     assert!(&rt; again == context);
+}
+
+#[test]
+fn packages_match_atoms_and_keywords_accept_them(rt: HostRuntime) {
+    let alloc = rt.alloc();
+    let pkg = pkg(&rt, alloc, "x", "y", "y-1");
+    assert!(&rt; matches_pkg(&atom(&rt, alloc, "x", "y"), &pkg));
+    assert!(&rt; !matches_pkg(&atom(&rt, alloc, "x", "z"), &pkg));
+    assert!(&rt; accepts(Level::Stable, b"amd64", &pkg.keywords));
+    assert!(&rt; accepts(Level::Testing, b"x86", &pkg.keywords));
+    assert!(&rt; !accepts(Level::Stable, b"x86", &pkg.keywords));
+    assert!(&rt; is_testing(b"x86", b"~x86") && !is_testing(b"x86", b"x86"));
 }
 
 const EAPIS: [Eapi; 4] = [Eapi::Five, Eapi::Six, Eapi::Seven, Eapi::Eight];
@@ -277,5 +294,18 @@ fn bdepend_begins_with_seven_and_idepend_with_eight(rt: HostRuntime) {
     assert_eq!(&rt; eapis_with(Class::Bdepend), 2);
     assert_eq!(&rt; eapis_with(Class::Idepend), 1);
     assert!(&rt; has_class(Eapi::Seven, Class::Bdepend) && has_class(Eapi::Eight, Class::Idepend));
-    assert!(&rt; class_text(Class::Idepend) == b"IDEPEND".as_slice());
+}
+
+#[test]
+fn each_class_has_its_key(rt: HostRuntime) {
+    has_key(&rt, Class::Required, "REQUIRED_USE");
+    has_key(&rt, Class::Depend, "DEPEND");
+    has_key(&rt, Class::Bdepend, "BDEPEND");
+    has_key(&rt, Class::Rdepend, "RDEPEND");
+    has_key(&rt, Class::Pdepend, "PDEPEND");
+    has_key(&rt, Class::Idepend, "IDEPEND");
+}
+
+fn has_key<R: Abort>(rt: &R, class: Class, want: &str) {
+    assert_eq!(rt; class_text(class), want.as_bytes());
 }

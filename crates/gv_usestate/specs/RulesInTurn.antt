@@ -1,4 +1,5 @@
--- What one rule makes of an effect, where it is known whether stable restrictions apply.
+-- For the contracts of private functions: what one rule makes of an effect, where it is known whether stable restrictions
+-- apply.
 use Rattle.std.specs.Prelude.{ℕ, Bool, true, ◌&&◌, ◌||◌, not, if◌then◌else◌, List, slice_get}
 use Rattle.std.specs.Option.{option_map_or}
 use Rattle.gv_facts.specs.declared.pkg.Pkg.{Pkg}

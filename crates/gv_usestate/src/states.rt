@@ -5,9 +5,8 @@ ghost use Rattle.gv_usestate.specs.RulesInTurn.{counts, behind, behind_at};
 
 use crate::restricted::is_restricted;
 use crate::sources::is_effective;
-use gv_atom::matches;
 use gv_base::Text;
-use gv_facts::{Effect, FlagState, Level, Pkg, Profile, Rule};
+use gv_facts::{Effect, FlagState, Level, Pkg, Profile, Rule, matches_pkg};
 
 // Whether the rule is for the effect and applies to the package, for which stable restrictions apply or don't.
 fn counts(rule: &Rule, effect: Effect, pkg: &Pkg, restricted: bool) -> bool
@@ -17,16 +16,7 @@ fn counts(rule: &Rule, effect: Effect, pkg: &Pkg, restricted: bool) -> bool
         return false;
     }
     match &rule.atom {
-        Some(atom) => {
-            matches(
-                atom,
-                &pkg.category,
-                &pkg.name,
-                &pkg.version,
-                &pkg.slot,
-                &pkg.sub,
-            )
-        }
+        Some(atom) => matches_pkg(atom, pkg),
         None => true,
     }
 }

@@ -81,13 +81,12 @@ ELIBC uclibc";
 fn values<R: Abort>(rt: &R, alloc: Global) -> ValueLists {
     let mut values = ValueLists::new(alloc);
     for line in VALUES.lines() {
-        if let Some((name, words)) = line.split_once(' ') {
-            let list = ValueList {
-                name: text(rt, alloc, name),
-                words: texts(rt, alloc, words),
-            };
-            values.add(list).expect(rt, "memory");
-        }
+        let (name, words) = line.split_once(' ').expect(rt, "a name and words");
+        let list = ValueList {
+            name: text(rt, alloc, name),
+            words: texts(rt, alloc, words),
+        };
+        values.add(list).expect(rt, "memory");
     }
     values
 }
@@ -175,11 +174,9 @@ amd64;stable.mask =x/y-1.2 a;off free";
 fn the_last_rule_for_an_effect_decides_and_a_mask_before_a_force(rt: HostRuntime) {
     let alloc = rt.alloc();
     for line in STATES.lines() {
-        if let Some((keywords, rest)) = line.split_once(';') {
-            if let Some((rules, want)) = rest.split_once(';') {
-                has_states(&rt, alloc, keywords, rules, "a", want);
-            }
-        }
+        let (keywords, rest) = line.split_once(';').expect(&rt, "keywords");
+        let (rules, want) = rest.split_once(';').expect(&rt, "rules");
+        has_states(&rt, alloc, keywords, rules, "a", want);
     }
 }
 

@@ -13,7 +13,7 @@ use Rattle.std.proofs.lemmas.Slice.Eq.{bytes_eq-Decides}
 use Rattle.indexmap.specs.IndexMap.{insert_entry}
 use Rattle.gv_facts.specs.declared.pkg.Pkg.{Pkg}
 use Rattle.gv_facts.specs.Places.{is_pkg_of, places_from, places_of}
-use Rattle.gv_visible.specs.NamesAt.{HasPlaces, Key, is_key, places_at}
+use Rattle.gv_visible.specs.PkgIndex.{HasPlaces, Key, is_key, places_at}
 
 abbrev pub key_eq : Key → Key → Bool
 key_eq a b = bytes_eq a.0.now b.0.now && bytes_eq a.1.now b.1.now

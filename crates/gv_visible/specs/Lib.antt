@@ -1,5 +1,6 @@
+pub mod HeldIndex
 pub mod MasksAt
-pub mod NamesAt
+pub mod PkgIndex
 pub mod Shown
 pub mod Tells
 pub mod Told

@@ -1,4 +1,4 @@
--- Masks by their places.
+-- For the contracts of private functions: masks by their places.
 use Rattle.std.specs.Prelude.{ℕ, Bool, false, List, slice_get}
 use Rattle.std.specs.Option.{option_map_or}
 use Rattle.gv_facts.specs.declared.masks.Mask.{Mask}

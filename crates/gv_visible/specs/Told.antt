@@ -1,15 +1,21 @@
--- What candidates hold.
+-- What contracts see of candidates.
 use Rattle.std.specs.Prelude.{List}
 use Rattle.gv_facts.specs.declared.kinds.Level.{Level}
 use Rattle.gv_facts.specs.declared.pkg.Pkg.{Pkg}
 use Rattle.gv_facts.specs.declared.profile.Profile.{Profile}
-use Rattle.gv_visible.specs.declared.candidates.Candidates.{Candidates}
+
+-- packages, the profile and the level at which they are looked at, and a test of packages
+pub record Candidates (F : Type 0) : Type 0 where
+  pub pkgs : List Pkg
+  pub profile : Profile
+  pub level : Level
+  pub test : F
 
 abbrev pub pkgs_of : {F : Type 0} → Candidates F → List Pkg
-pkgs_of c = c.by_name
+pkgs_of c = c.pkgs
 
 abbrev pub profile_of : {F : Type 0} → Candidates F → Profile
-profile_of c = c.profile.now
+profile_of c = c.profile
 
 abbrev pub level_of : {F : Type 0} → Candidates F → Level
 level_of c = c.level

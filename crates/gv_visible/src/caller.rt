@@ -1,11 +1,11 @@
-//! A search as the layers above make it, with a closure that captures the profile and the level. The crate's tests call
-//! it; it stands here so that the check sees which closures `Candidates::new` takes.
+//! Searches as the layers above make them, with a closure that captures the profile and the level. The crate's tests call
+//! them; they stand here so that the check sees which closures `Candidates::new` and `Candidates::over` take.
 ghost use Rattle.std.specs.Prelude.{◌≡◌, IfOk};
 ghost use Rattle.std.specs.List.{find};
 ghost use Rattle.gv_facts.specs.Places.{places_of};
 ghost use Rattle.gv_visible.specs.Shown.{is_from, shows};
 
-use crate::{Candidates, visible};
+use crate::{Candidates, PkgIndex, visible};
 use gv_atom::Atom;
 use gv_base::NoMemory;
 use gv_facts::{Level, Pkg, Pkgs, Profile};
@@ -25,4 +25,19 @@ pub(crate) fn next_visible(
     let test = |pkg: &Pkg| visible(pkg, profile, level);
     let candidates = Candidates::new(alloc, pkgs, profile, level, test)?;
     Ok(candidates.next(atom, from))
+}
+
+/// The same over an index that was made before.
+pub(crate) fn next_visible_over<'a>(
+    index: &'a PkgIndex<'a>,
+    profile: &'a Profile,
+    level: Level,
+    atom: &Atom,
+    from: u32,
+) -> Option<u32>
+    ensures { result ≡ find (is_from from) (places_of (shows profile.now level atom.now) index.now) }
+{
+    let shown = |pkg: &Pkg| visible(pkg, profile, level);
+    let candidates = Candidates::over(index, profile, level, shown);
+    candidates.next(atom, from)
 }

@@ -3,17 +3,18 @@ ghost use Rattle.std.specs.Prelude.{◌≡◌, ◌+◌, [], ◌∷◌, filter, n
 ghost use Rattle.std.specs.List.{find};
 ghost use Rattle.std.specs.Option.{option_map_or};
 ghost use Rattle.std.specs.List.Sorted.{IsPartitionedBy};
-ghost use Rattle.gv_facts.specs.Places.{places_of};
+ghost use Rattle.gv_facts.specs.Places.{is_pkg_of, places_of};
 ghost use Rattle.gv_visible.specs.Shown.{is_from, shows, shows_at};
-ghost use Rattle.gv_visible.specs.Tells.{MayAsk, Tells};
+ghost use Rattle.gv_visible.specs.Tells.{AnswersVisible};
 ghost use Rattle.gv_visible.specs.Told.{level_of, pkgs_of, profile_of, test_of};
+ghost use Rattle.gv_visible.specs.HeldIndex.{held};
 
-use crate::by_name::ByName;
-use crate::visibility::matches_pkg;
+use crate::pkg_index::PkgIndex;
 use gv_atom::Atom;
 use gv_base::NoMemory;
-use gv_facts::{Level, Pkg, Pkgs, Profile};
+use gv_facts::{Level, Pkg, Pkgs, Profile, matches_pkg};
 use std::alloc::Global;
+use std::marker::Model;
 
 // The ascending places from `from` on.
 fn places_from(places: &[u32], from: u32) -> &[u32]
@@ -24,20 +25,57 @@ fn places_from(places: &[u32], from: u32) -> &[u32]
     &places[first..]
 }
 
+// An index that the candidates made, or one that was made for many of them.
+#[derive(Drop)]
+enum HeldIndex<'a> {
+    Own(PkgIndex<'a>),
+    Shared(&'a PkgIndex<'a>),
+}
+
+impl<'a> HeldIndex<'a> {
+    fn pkgs(&self) -> &'a Pkgs
+        ensures { result.now ≡ held self.now }
+    {
+        match self {
+            HeldIndex::Own(index) => index.pkgs(),
+            HeldIndex::Shared(index) => index.pkgs(),
+        }
+    }
+
+    fn at(&self, category: &[u8], name: &[u8]) -> &[u32]
+        ensures { result.now ≡ places_of (is_pkg_of category.now name.now) (held self.now) }
+    {
+        match self {
+            HeldIndex::Own(index) => index.at(category, name),
+            HeldIndex::Shared(index) => index.at(category, name),
+        }
+    }
+}
+
 /// Packages, the profile and the level at which they are looked at, and a test of packages.
 ///
 /// That the test may be asked of every package that is a value, and then answers whether the profile shows it at this
-/// level, is told by `new`, and every call that asks the test requires it.
+/// level, is told by `new` and `over`, and every call that asks the test requires it.
 #[derive(Drop)]
 pub struct Candidates<'a, F: Fn(&Pkg) -> bool> {
-    by_name: ByName<'a>,
+    index: HeldIndex<'a>,
     profile: &'a Profile,
     level: Level,
     test: F,
 }
 
+impl<'a, F: Fn(&Pkg) -> bool> Model for Candidates<'a, F> {
+    ghost use Rattle.gv_visible.specs.HeldIndex.{held};
+    ghost use Rattle.gv_visible.specs.Told.{Candidates};
+
+    ghost Value = { Candidates F };
+
+    ghost view = { λ c. record { pkgs = held c.index; profile = c.profile.now; level = c.level; test = c.test } };
+}
+
 impl<'a, F: Fn(&Pkg) -> bool> Candidates<'a, F> {
-    /// Candidates among the packages. The test answers `visible` for the profile and the level.
+    /// Candidates among the packages, which it indexes: O(packages). The test answers `visible` for the profile and the
+    /// level.
     pub fn new(
         alloc: Global,
         pkgs: &'a Pkgs,
@@ -45,28 +83,48 @@ impl<'a, F: Fn(&Pkg) -> bool> Candidates<'a, F> {
         level: Level,
         test: F,
     ) -> Result<Candidates<'a, F>, NoMemory>
-        requires callable { MayAsk (F.pre test) }
-        requires tells { Tells (F.post test) profile.now level }
+        requires test { AnswersVisible (F.pre test) (F.post test) profile.now level }
         ensures pkgs { IfOk result (λ candidates. pkgs_of candidates ≡ pkgs.now) }
         ensures profile { IfOk result (λ candidates. profile_of candidates ≡ profile.now) }
         ensures level { IfOk result (λ candidates. level_of candidates ≡ level) }
-        ensures callable { IfOk result (λ candidates. MayAsk (F.pre (test_of candidates))) }
-        ensures tells { IfOk result (λ candidates. Tells (F.post (test_of candidates)) (profile_of candidates) (level_of candidates)) }
+        ensures test { IfOk result (λ candidates. AnswersVisible (F.pre (test_of candidates)) (F.post (test_of candidates)) (profile_of candidates) (level_of candidates)) }
     {
-        let by_name = ByName::new(alloc, pkgs)?;
+        let index = PkgIndex::new(alloc, pkgs)?;
         Ok(Candidates {
-            by_name,
+            index: HeldIndex::Own(index),
             profile,
             level,
             test,
         })
     }
 
+    /// Candidates among the packages of an index: O(1), without memory. The test answers `visible` for the profile and the
+    /// level.
+    pub fn over(
+        index: &'a PkgIndex<'a>,
+        profile: &'a Profile,
+        level: Level,
+        test: F,
+    ) -> Candidates<'a, F>
+        requires test { AnswersVisible (F.pre test) (F.post test) profile.now level }
+        ensures pkgs { pkgs_of result ≡ index.now }
+        ensures profile { profile_of result ≡ profile.now }
+        ensures level { level_of result ≡ level }
+        ensures test { AnswersVisible (F.pre (test_of result)) (F.post (test_of result)) (profile_of result) (level_of result) }
+    {
+        Candidates {
+            index: HeldIndex::Shared(index),
+            profile,
+            level,
+            test,
+        }
+    }
+
     /// The packages.
     pub fn pkgs(&self) -> &'a Pkgs
         ensures { result.now ≡ pkgs_of self.now }
     {
-        self.by_name.pkgs()
+        self.index.pkgs()
     }
 
     /// The profile.
@@ -83,25 +141,29 @@ impl<'a, F: Fn(&Pkg) -> bool> Candidates<'a, F> {
         self.level
     }
 
-    // Whether the package at this place matches the atom and is visible.
+    fn at(&self, category: &[u8], name: &[u8]) -> &[u32]
+        ensures { result.now ≡ places_of (is_pkg_of category.now name.now) (pkgs_of self.now) }
+    {
+        self.index.at(category, name)
+    }
+
+    // Whether the package at this place matches the atom and is visible. The test is asked of what matches alone.
     fn shows_at(&self, pkgs: &[Pkg], place: u32, atom: &Atom) -> bool
-        requires callable { MayAsk (F.pre (test_of self.now)) }
-        requires tells { Tells (F.post (test_of self.now)) (profile_of self.now) (level_of self.now) }
+        requires test { AnswersVisible (F.pre (test_of self.now)) (F.post (test_of self.now)) (profile_of self.now) (level_of self.now) }
         ensures { result ≡ shows_at (profile_of self.now) (level_of self.now) atom.now pkgs.now place }
     {
         match pkgs.get(place as usize) {
-            Some(pkg) => {
+            Some(pkg) if matches_pkg(atom, pkg) => {
                 pkg.tell();
-                matches_pkg(atom, pkg) && (self.test)(pkg)
+                (self.test)(pkg)
             }
-            None => false,
+            _ => false,
         }
     }
 
     // The first of the places at which a package matches and is visible.
     fn first_shown(&self, pkgs: &[Pkg], places: &[u32], atom: &Atom) -> Option<u32>
-        requires callable { MayAsk (F.pre (test_of self.now)) }
-        requires tells { Tells (F.post (test_of self.now)) (profile_of self.now) (level_of self.now) }
+        requires test { AnswersVisible (F.pre (test_of self.now)) (F.post (test_of self.now)) (profile_of self.now) (level_of self.now) }
         ensures { result ≡ find (shows_at (profile_of self.now) (level_of self.now) atom.now pkgs.now) places.now }
     {
         for place in places {
@@ -114,14 +176,13 @@ impl<'a, F: Fn(&Pkg) -> bool> Candidates<'a, F> {
 
     /// The least number from `from` on of a package that the atom matches and that is visible. None where there is none.
     pub fn next(&self, atom: &Atom, from: u32) -> Option<u32>
-        requires callable { MayAsk (F.pre (test_of self.now)) }
-        requires tells { Tells (F.post (test_of self.now)) (profile_of self.now) (level_of self.now) }
+        requires test { AnswersVisible (F.pre (test_of self.now)) (F.post (test_of self.now)) (profile_of self.now) (level_of self.now) }
         ensures first { result ≡ find (is_from from) (places_of (shows (profile_of self.now) (level_of self.now) atom.now) (pkgs_of self.now)) }
         // All of them from `from` on are this one and those behind it.
         ensures all { let shown = places_of (shows (profile_of self.now) (level_of self.now) atom.now) (pkgs_of self.now) in filter (is_from from) shown ≡ option_map_or (λ n. n ∷ filter (is_from (n + 1)) shown) result [] }
     {
-        let places = self.by_name.at(atom.category.bytes(), atom.name.bytes());
+        let places = self.at(atom.category.bytes(), atom.name.bytes());
         let rest = places_from(places, from);
-        self.first_shown(self.by_name.pkgs().items(), rest, atom)
+        self.first_shown(self.pkgs().items(), rest, atom)
     }
 }

@@ -1,23 +1,26 @@
 //! Which packages a profile shows (PMS chapters 5 and 7), and the search for those that an atom asks for.
 //!
 //! Stands on the records and definitions of `gv_facts`. The layers above use that `visible` and `judged` equal the
-//! definitions of these names there, and of `Candidates` what `next` finds.
+//! definitions of these names there, and of `Candidates` what `next` finds. They make one `PkgIndex` for all packages, and
+//! candidates over it for each profile and level.
 //!
 //! - `visibility`: keywords and masks. O(the package's keywords and the masks of its category and name), besides the
 //!   look-up of these, O(log n) comparisons of names for n names in masks; without memory.
-//! - `by_name`: packages by category and name, in a hash map that `indexmap` keeps.
-//! - `candidates`: packages beside a stored test that is known to answer which are visible. `next` takes no memory and
-//!   costs a look-up, a binary search among the packages of the atom's category and name, and then O(bytes) and a call
-//!   of the test for each of those from the given number on, up to the one that it finds.
-//! - `caller`: a search as the layers above make it.
+//! - `pkg_index`: packages by category and name, in a hash map that `indexmap` keeps. O(packages) to make.
+//! - `candidates`: packages beside a stored test that is known to answer which are visible. `over` costs O(1), `new` as
+//!   much as an index. `next` takes no memory and costs a look-up, a binary search among the packages of the atom's
+//!   category and name, and then for each of those from the given number on, up to the one that it finds, O(bytes of the
+//!   atom), and where it matches O(bytes of the package) and a call of the test.
+//! - `caller`: searches as the layers above make them.
 #![tactic(auto)]
 
-mod by_name;
 mod caller;
 mod candidates;
+mod pkg_index;
 #[cfg(test)]
 mod tests;
 mod visibility;
 
 pub use candidates::Candidates;
+pub use pkg_index::PkgIndex;
 pub use visibility::{judged, visible};

@@ -1,7 +1,7 @@
 //! Visible packages, and candidates with their stored test, on records made by hand from PMS chapters 5 and 7. Each line
 //! of a table is one case.
-use crate::caller::next_visible;
-use crate::{Candidates, judged, visible};
+use crate::caller::{next_visible, next_visible_over};
+use crate::{Candidates, PkgIndex, judged, visible};
 use gv_atom::{Atom, read_atom};
 use gv_base::{Text, Texts, words_of};
 use gv_facts::{Eapi, Level, Mask, Masks, Pkg, Pkgs, Profile, Rules, Status, ValueLists};
@@ -139,11 +139,9 @@ amd64;=x/y-1.2-r1;both stable";
 fn keywords_accept_and_masks_hide(rt: HostRuntime) {
     let alloc = rt.alloc();
     for line in JUDGED.lines() {
-        if let Some((keywords, rest)) = line.split_once(';') {
-            if let Some((masks, want)) = rest.split_once(';') {
-                is_judged(&rt, alloc, keywords, masks, want);
-            }
-        }
+        let (keywords, rest) = line.split_once(';').expect(&rt, "keywords");
+        let (masks, want) = rest.split_once(';').expect(&rt, "masks");
+        is_judged(&rt, alloc, keywords, masks, want);
     }
 }
 
@@ -160,15 +158,12 @@ fn pkgs<R: Abort>(rt: &R, alloc: Global) -> Pkgs {
     let mut pkgs = Pkgs::new(alloc);
     for line in PKGS.lines() {
         let mut words = line.split(' ');
-        if let (Some(category), Some(name), Some(version), Some(keyword)) = (
-            words.next(),
-            words.next(),
-            words.next(),
-            words.next(),
-        ) {
-            let pkg = pkg(rt, alloc, category, name, version, keyword);
-            pkgs.add(pkg).expect(rt, "memory");
-        }
+        let category = words.next().expect(rt, "a category");
+        let name = words.next().expect(rt, "a name");
+        let version = words.next().expect(rt, "a version");
+        let keyword = words.next().expect(rt, "a keyword");
+        let pkg = pkg(rt, alloc, category, name, version, keyword);
+        pkgs.add(pkg).expect(rt, "memory");
     }
     pkgs
 }
@@ -201,17 +196,29 @@ x/y:0/3 1 5 4
 x/y:1 0 - -
 !x/y 1 5 4";
 
-fn found<R: Abort>(
+// The next number that candidates of their own, and those over the index, find.
+fn finds<R: Abort>(
     rt: &R,
     alloc: Global,
-    pkgs: &Pkgs,
+    index: &PkgIndex<'_>,
     profile: &Profile,
     level: Level,
     bytes: &str,
     from: u32,
-) -> Option<u32> {
+    want: &str,
+) {
     let atom = atom(rt, alloc, bytes);
-    next_visible(alloc, pkgs, profile, level, &atom, from).expect(rt, "memory")
+    let pkgs = index.pkgs();
+    let found = next_visible(alloc, pkgs, profile, level, &atom, from).expect(rt, "memory");
+    let found_over = next_visible_over(index, profile, level, &atom, from);
+    if want == "-" {
+        assert_eq!(rt; found, None);
+        assert_eq!(rt; found_over, None);
+    } else {
+        let want: u32 = want.parse().expect(rt, "a number");
+        assert_eq!(rt; found, Some(want));
+        assert_eq!(rt; found_over, Some(want));
+    }
 }
 
 #[test]
@@ -219,20 +226,34 @@ fn the_next_candidate_is_visible_and_not_before(rt: HostRuntime) {
     let alloc = rt.alloc();
     let pkgs = pkgs(&rt, alloc);
     let profile = profile(&rt, alloc, "=x/y-2");
+    let index = PkgIndex::new(alloc, &pkgs).expect(&rt, "memory");
     for line in NEXT.lines() {
         let mut words = line.split(' ');
-        if let (Some(atom), Some(from), Some(stable), Some(testing)) = (
-            words.next(),
-            words.next(),
-            words.next(),
-            words.next(),
-        ) {
-            let from: u32 = from.parse().expect(&rt, "a number");
-            let at_stable = found(&rt, alloc, &pkgs, &profile, Level::Stable, atom, from);
-            let at_testing = found(&rt, alloc, &pkgs, &profile, Level::Testing, atom, from);
-            assert_eq!(&rt; at_stable, stable.parse().ok());
-            assert_eq!(&rt; at_testing, testing.parse().ok());
-        }
+        let atom = words.next().expect(&rt, "an atom");
+        let from = words.next().expect(&rt, "a number");
+        let stable = words.next().expect(&rt, "what is next at stable");
+        let testing = words.next().expect(&rt, "what is next at testing");
+        let from: u32 = from.parse().expect(&rt, "a number");
+        finds(
+            &rt,
+            alloc,
+            &index,
+            &profile,
+            Level::Stable,
+            atom,
+            from,
+            stable,
+        );
+        finds(
+            &rt,
+            alloc,
+            &index,
+            &profile,
+            Level::Testing,
+            atom,
+            from,
+            testing,
+        );
     }
 }
 

@@ -1,57 +1,33 @@
 //! Whether a package is accepted by its keywords, and masked.
 ghost use Rattle.std.specs.Prelude.{◌≡◌};
 ghost use Rattle.std.specs.List.{list_any};
-ghost use Rattle.std.specs.Str.{bytes_eq};
-ghost use Rattle.gv_base.specs.Order.{has_text};
-ghost use Rattle.gv_facts.specs.Visible.{accepts, is_masked, judged, matches_pkg, testing, visible};
+ghost use Rattle.gv_facts.specs.Visible.{is_masked, judged, visible};
 ghost use Rattle.gv_visible.specs.MasksAt.{matches_at};
 
-use gv_atom::{Atom, matches};
-use gv_base::{Text, Texts};
-use gv_facts::{Level, Mask, Masks, Pkg, Profile};
+use gv_facts::{Level, Mask, Masks, Pkg, Profile, accepts, matches_pkg};
 
-// Whether the keyword is the arch with `~`.
-fn is_testing(arch: &Text, keyword: &[u8]) -> bool
-    ensures { result ≡ bytes_eq (testing arch.now) keyword.now }
+/// Whether the package is accepted at this level and no mask matches it: at stable its keywords have the profile's arch,
+/// at testing that or the arch with `~`.
+pub fn visible(pkg: &Pkg, profile: &Profile, level: Level) -> bool
+    ensures { result ≡ visible pkg.now profile.now level }
 {
-    match keyword {
-        [b'~', rest @ ..] => arch.bytes() == rest,
-        _ => false,
-    }
+    accepts(level, profile.arch.bytes(), &pkg.keywords) && !is_masked(pkg, &profile.masks)
 }
 
-fn has_testing(keywords: &Texts, arch: &Text) -> bool
-    ensures { result ≡ has_text keywords.now (testing arch.now) }
+/// The level at which the profile judges the package: stable where its keywords have the arch, else testing where they
+/// have the arch with `~`. A masked package isn't judged.
+pub fn judged(pkg: &Pkg, profile: &Profile) -> Option<Level>
+    ensures { result ≡ judged pkg.now profile.now }
 {
-    for keyword in keywords.items() {
-        if is_testing(arch, keyword.bytes()) {
-            return true;
-        }
+    if is_masked(pkg, &profile.masks) {
+        None
+    } else if accepts(Level::Stable, profile.arch.bytes(), &pkg.keywords) {
+        Some(Level::Stable)
+    } else if accepts(Level::Testing, profile.arch.bytes(), &pkg.keywords) {
+        Some(Level::Testing)
+    } else {
+        None
     }
-    false
-}
-
-fn accepts(level: Level, arch: &Text, keywords: &Texts) -> bool
-    ensures { result ≡ accepts level arch.now keywords.now }
-{
-    match level {
-        Level::Stable => keywords.has(arch.bytes()),
-        Level::Testing => keywords.has(arch.bytes()) || has_testing(keywords, arch),
-    }
-}
-
-/// Whether the atom asks for the package.
-pub fn matches_pkg(atom: &Atom, pkg: &Pkg) -> bool
-    ensures { result ≡ matches_pkg atom.now pkg.now }
-{
-    matches(
-        atom,
-        &pkg.category,
-        &pkg.name,
-        &pkg.version,
-        &pkg.slot,
-        &pkg.sub,
-    )
 }
 
 // Whether the mask at this place matches.
@@ -81,28 +57,4 @@ fn is_masked(pkg: &Pkg, masks: &Masks) -> bool
 {
     let places = masks.places_of(pkg.category.bytes(), pkg.name.bytes());
     some_matches(masks.items(), places, pkg)
-}
-
-/// Whether the package is accepted at this level and no mask matches it: at stable its keywords have the profile's arch,
-/// at testing that or the arch with `~`.
-pub fn visible(pkg: &Pkg, profile: &Profile, level: Level) -> bool
-    ensures { result ≡ visible pkg.now profile.now level }
-{
-    accepts(level, &profile.arch, &pkg.keywords) && !is_masked(pkg, &profile.masks)
-}
-
-/// The level at which the profile judges the package: stable where its keywords have the arch, else testing where they
-/// have the arch with `~`. A masked package isn't judged.
-pub fn judged(pkg: &Pkg, profile: &Profile) -> Option<Level>
-    ensures { result ≡ judged pkg.now profile.now }
-{
-    if is_masked(pkg, &profile.masks) {
-        None
-    } else if accepts(Level::Stable, &profile.arch, &pkg.keywords) {
-        Some(Level::Stable)
-    } else if accepts(Level::Testing, &profile.arch, &pkg.keywords) {
-        Some(Level::Testing)
-    } else {
-        None
-    }
 }

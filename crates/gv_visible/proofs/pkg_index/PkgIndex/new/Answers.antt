@@ -1,7 +1,7 @@
 use Rattle.std.proofs.Common.{◌≡◌, ◌<◌, ◌≤◌, length, get_or, take, arith, subst}
 use Rattle.std.proofs.Math.Seq.{take-length}
 use Rattle.gv_visible.proofs.NameMap.{Holds, all_came, one_more}
-use Rattle.gv_visible.proofs.by_name.ByName.new.Goals as goal
+use Rattle.gv_visible.proofs.pkg_index.PkgIndex.new.Goals as goal
 
 pub loop-pkg-preserved : goal.loop-pkg-preserved
 loop-pkg-preserved c =

@@ -1,6 +1,6 @@
 use Rattle.std.proofs.Common.{take}
 use Rattle.gv_visible.proofs.NameMap.{Holds}
-use Rattle.gv_visible.proofs.by_name.ByName.new.Given as goal
+use Rattle.gv_visible.proofs.pkg_index.PkgIndex.new.Given as goal
 
 abbrev pub invariant-loop-pkg : goal.invariant-loop-pkg
 invariant-loop-pkg l = Holds l.places.entries (take l.pkg-index l.pkgs) l.pkgs

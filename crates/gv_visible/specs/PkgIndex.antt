@@ -1,4 +1,4 @@
--- What the hash map of packages by category and name holds.
+-- For an invariant: what the hash map of packages by category and name holds.
 use Rattle.std.specs.Prelude.{◌≡◌, ℕ, Bool, ◌&&◌, List, []}
 use Rattle.std.specs.Borrow.{Bor}
 use Rattle.std.specs.Map.{lookup}

@@ -2,7 +2,7 @@ use Rattle.std.proofs.Common.{◌≡◌, drop, map}
 use Rattle.gv_base.specs.Order.{has_text}
 use Rattle.gv_facts.specs.States.{as_testing}
 use Rattle.gv_facts.specs.Visible.{testing}
-use Rattle.gv_usestate.proofs.restricted.has_testing_once_testing.Given as goal
+use Rattle.gv_usestate.proofs.restricted.has_testing_demoted.Given as goal
 
 abbrev pub invariant-loop-keyword : goal.invariant-loop-keyword
 invariant-loop-keyword l = has_text (map as_testing (drop l.keyword-index l.keywords)) (testing l.arch) ≡ has_text (map as_testing l.keywords) (testing l.arch)

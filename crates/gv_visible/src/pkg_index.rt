@@ -11,17 +11,18 @@ use indexmap::IndexMap;
 use std::alloc::Global;
 use std::marker::Model;
 
-/// A list of packages with the places of those of each category and name.
+/// A list of packages with the places of those of each category and name: made once for the packages, and lent to the
+/// candidates of every profile and level.
 #[derive(Drop)]
-pub struct ByName<'a> {
+pub struct PkgIndex<'a> {
     pkgs: &'a Pkgs,
     places: IndexMap<(&'a [u8], &'a [u8]), &'a [u32]>,
 }
 
-impl<'a> Model for ByName<'a> {
+impl<'a> Model for PkgIndex<'a> {
     ghost use Rattle.std.specs.Prelude.{List};
     ghost use Rattle.gv_facts.specs.declared.pkg.Pkg.{Pkg};
-    ghost use Rattle.gv_visible.specs.NamesAt.{HasPlaces};
+    ghost use Rattle.gv_visible.specs.PkgIndex.{HasPlaces};
 
     ghost Value = { List Pkg };
 
@@ -30,9 +31,10 @@ impl<'a> Model for ByName<'a> {
     ghost invariant = { λ l. HasPlaces l.places.entries l.pkgs.now };
 }
 
-impl<'a> ByName<'a> {
-    pub fn new(alloc: Global, pkgs: &'a Pkgs) -> Result<ByName<'a>, NoMemory>
-        ensures { IfOk result (λ by_name. by_name ≡ pkgs.now) }
+impl<'a> PkgIndex<'a> {
+    /// An index of the packages.
+    pub fn new(alloc: Global, pkgs: &'a Pkgs) -> Result<PkgIndex<'a>, NoMemory>
+        ensures { IfOk result (λ index. index ≡ pkgs.now) }
     {
         let mut places = IndexMap::new(alloc);
         for pkg in pkgs.items() {
@@ -40,7 +42,7 @@ impl<'a> ByName<'a> {
             let name = pkg.name.bytes();
             places.insert((category, name), pkgs.places_of(category, name))?;
         }
-        Ok(ByName { pkgs, places })
+        Ok(PkgIndex { pkgs, places })
     }
 
     /// The packages.
@@ -50,7 +52,7 @@ impl<'a> ByName<'a> {
         self.pkgs
     }
 
-    /// The places of the packages of this category and name.
+    /// The places, from 0 and ascending, of the packages of this category and name.
     pub fn at(&self, category: &[u8], name: &[u8]) -> &[u32]
         ensures { result.now ≡ places_of (is_pkg_of category.now name.now) self.now }
     {
