@@ -1,7 +1,8 @@
 -- The function `least` gives the least assignment with the property, and nothing only where there is none.
 use Rattle.std.proofs.Common.{◌≡◌, ◌≢◌, ℕ, suc, zero, Bool, true, false, List, [], ◌∷◌, ◌++◌, length, refl, ap, sym, ◌∙◌, subst, MatchOption, append_assoc, append-nil, arith, inl, inr, Option, Some, None, if◌then◌else◌}
 use Rattle.std.proofs.lemmas.Bool.{false≢true}
-use Rattle.gv_entry.specs.Least.{Lesser, IsLeast, HasNone, least_behind, least}
+use Rattle.gv_base.specs.Least.{Lesser, IsLeast, HasNone}
+use Rattle.gv_entry.specs.Least.{least_behind, least}
 
 -- what a search behind the first bits says
 abbrev pub Said : (List Bool → Bool) → ℕ → List Bool → Option (List Bool) → Type 0

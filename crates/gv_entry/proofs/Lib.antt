@@ -1,9 +1,11 @@
-mod AllowedLaw
+mod Alike
 mod ClassFaults
 mod DigestLaw
 mod Examples
 mod HexLaw
 mod Hyphens
+mod KeyLines
 mod LeastLaw
+mod QueryLaw
 mod TabCuts
 mod ValueLaw

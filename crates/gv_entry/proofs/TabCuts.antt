@@ -6,7 +6,8 @@ use Rattle.std.proofs.lemmas.List.Splits.{slice_split-cons_yes, slice_split-cons
 use Rattle.std.specs.List.{onto_first}
 use Rattle.bstr.specs.Find.{Nowhere, NoneBefore, Passes, is_byte}
 use Rattle.gv_entry.specs.declared.entry.Eclass.{Eclass}
-use Rattle.gv_entry.specs.Digests.{between_tabs, digest_in, eclasses_in, is_part, with_eclass}
+use Rattle.gv_base.specs.Paths.{is_part}
+use Rattle.gv_entry.specs.Digests.{between_tabs, digest_in, eclasses_in, with_eclass}
 
 head_no : (b : ℕ) (bs : List ℕ) → ((b == 9) ≡ true → ⊥) → between_tabs (b ∷ bs) ≡ onto_first b (between_tabs bs)
 head_no b bs other = slice_split-cons_no (λ x. x == 9) b bs (by (b == 9) refl)

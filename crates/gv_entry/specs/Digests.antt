@@ -1,10 +1,10 @@
 -- Digests, as 32 hexadecimal digits of either case, and the list of eclasses (PMS chapter 14, md5-dict).
-use Rattle.std.specs.Prelude.{ℕ, ◌+◌, ◌*◌, ◌-◌, ◌==◌, nat_le, ◌&&◌, Bool, not, if◌then◌else◌, List, [], ◌∷◌, length, Option, None, Some, codes}
+use Rattle.std.specs.Prelude.{ℕ, ◌+◌, ◌*◌, ◌-◌, ◌==◌, nat_le, ◌&&◌, if◌then◌else◌, List, [], ◌∷◌, length, Option, None, Some}
 use Rattle.std.specs.Borrow.{Bor}
 use Rattle.std.specs.List.{slice_split}
-use Rattle.std.specs.Str.{bytes_eq, byte}
+use Rattle.gv_base.specs.Paths.{is_part}
 use Rattle.gv_base.specs.Words.{is_empty}
-use Rattle.gv_version.specs.Bytes.{has_only, is_digit}
+use Rattle.gv_version.specs.Bytes.{is_digit}
 use Rattle.gv_entry.specs.declared.entry.Eclass.{Eclass}
 
 abbrev pub hex_digit : ℕ → Option ℕ
@@ -25,13 +25,7 @@ hex_bytes (h ∷ l ∷ hs) = with_byte (hex_digit h) (hex_digit l) (hex_bytes hs
 abbrev pub digest_in : List ℕ → Option (List ℕ)
 digest_in text = if length text == 32 then hex_bytes text else None
 
--- one part of a path
-abbrev pub is_part_byte : ℕ → Bool
-is_part_byte b = nat_le 33 b && (nat_le b 126 && not (b == byte "/"))
-
-abbrev pub is_part : List ℕ → Bool
-is_part text = has_only is_part_byte text && (not (bytes_eq text (codes ".")) && not (bytes_eq text (codes "..")))
-
+-- a name is one part of a path
 abbrev pub with_eclass : List ℕ → Option (List ℕ) → Option (List Eclass) → Option (List Eclass)
 with_eclass name (Some digest) (Some rest) = if is_part name then Some (record { name = name; digest = digest } ∷ rest) else None
 with_eclass name digest rest = None

@@ -6,4 +6,6 @@ pub mod EntryValues
 pub mod Holds
 pub mod Laws
 pub mod Least
+pub mod LeastAssignments
+pub mod Queries
 pub mod Weight

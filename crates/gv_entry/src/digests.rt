@@ -1,12 +1,11 @@
 //! Digests and the eclasses of an entry. O(bytes); `digest_of` and `digest_in` take no memory.
 ghost use Rattle.std.specs.Prelude.{◌≡◌, [], ◌∷◌, IfOk, MatchOption};
-ghost use Rattle.std.specs.List.{list_all};
-ghost use Rattle.gv_entry.specs.Digests.{between_tabs, digest_in, eclasses_in, eclasses_of, fields_left, is_part, is_part_byte};
+ghost use Rattle.gv_entry.specs.Digests.{between_tabs, digest_in, eclasses_in, eclasses_of, fields_left};
 ghost use Rattle.md5.specs.Md5.{md5};
 
 use crate::{Eclass, Eclasses};
 use bstr::ByteSlice;
-use gv_base::{NoMemory, Text};
+use gv_base::{NoMemory, Text, is_part};
 use hex::FromHex;
 use md5::{Digest, Md5};
 use std::alloc::Global;
@@ -23,28 +22,6 @@ pub fn digest_in(text: &[u8]) -> Option<[u8; 16]>
     ensures { result ≡ digest_in text.now }
 {
     <[u8; 16] as FromHex>::from_hex(text).ok()
-}
-
-fn is_part_byte(b: u8) -> bool
-    ensures { result ≡ is_part_byte b }
-{
-    matches!(b, b'!'..=b'~') && b != b'/'
-}
-
-fn has_part_bytes(text: &[u8]) -> bool
-    ensures { result ≡ list_all is_part_byte text.now }
-{
-    text.iter().all(|b| is_part_byte(*b))
-}
-
-// Whether the text is one part of a path.
-fn is_part(text: &[u8]) -> bool
-    ensures { result ≡ is_part text.now }
-{
-    match text {
-        [] | [b'.'] | [b'.', b'.'] => false,
-        _ => has_part_bytes(text),
-    }
 }
 
 // The text before the first tab, and what is behind the tab.

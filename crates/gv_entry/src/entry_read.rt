@@ -6,34 +6,32 @@ ghost use Rattle.gv_facts.specs.declared.kinds.Class.TheVariants.{Required};
 ghost use Rattle.gv_facts.specs.Classes.{class_text};
 ghost use Rattle.gv_base.specs.Words.{tokens_of};
 ghost use Rattle.gv_version.specs.Names.{split_pf};
-ghost use Rattle.gv_version.specs.VersionForm.{is_version};
 ghost use Rattle.gv_entry.specs.Details.{body_details, class_details, errors_of, head_details, head_details_with, language_of};
 ghost use Rattle.gv_entry.specs.EntryRead.{body_of, dep_in, entry_of, entry_with, head_of, head_with, pkg_with};
-ghost use Rattle.gv_entry.specs.EntryValues.{AreValues, value_of};
+ghost use Rattle.gv_entry.specs.EntryValues.{value_of};
 
 use crate::details::{note_slot, note_text, note_token, note_word};
 use crate::digests::{digest_in, eclasses_of};
 use crate::entry_values::{
-    Values, bad_flag, bad_keyword, eapi_of, flags_of, plus_flags_of, slot_of, values_of,
+    EntryText, bad_flag, bad_keyword, eapi_of, flags_of, plus_flags_of, slot_of,
 };
 use crate::{Body, Entry, EntryErrors};
 use gv_base::{NoMemory, Text, Texts, tokens_of};
 use gv_expr::{DepExpr, ExprFault, UseExpr, read_dep, read_required};
 use gv_facts::{Class, Eapi, Pkg, has_class};
-use gv_version::{Version, VersionFault, read_version, split_pf, split_pf_law};
+use gv_version::{Version, split_pf, split_pf_law};
 use std::alloc::Global;
 
 fn required_in(
     alloc: Global,
     eapi: Eapi,
-    values: &Values,
+    text: &EntryText<'_>,
     errors: &mut EntryErrors,
 ) -> Result<Option<UseExpr>, NoMemory>
-    requires { AreValues values.now }
-    ensures required { IfOk result (λ required. required ≡ read_required (value_of (class_text Required) values.now.bytes.now)) }
-    ensures errors { OnOk result (errors.new ≡ errors.old ++ errors_of (class_details eapi values.now.bytes.now Required)) }
+    ensures required { IfOk result (λ required. required ≡ read_required (value_of (class_text Required) text.now)) }
+    ensures errors { OnOk result (errors.new ≡ errors.old ++ errors_of (class_details eapi text.now Required)) }
 {
-    match read_required(alloc, values.of_class(Class::Required)) {
+    match read_required(alloc, text.of_class(Class::Required)) {
         Ok(required) => Ok(Some(required)),
         Err(ExprFault::Bad { token, kind }) => {
             note_token(alloc, Class::Required, token, kind, errors)?;
@@ -46,19 +44,18 @@ fn required_in(
 fn dep_in(
     alloc: Global,
     eapi: Eapi,
-    values: &Values,
+    text: &EntryText<'_>,
     class: Class,
     errors: &mut EntryErrors,
 ) -> Result<Option<DepExpr>, NoMemory>
-    requires values { AreValues values.now }
-    requires class { language_of class ≡ dependency }
-    ensures dep { IfOk result (λ dep. dep ≡ dep_in eapi values.now.bytes.now class) }
-    ensures errors { OnOk result (errors.new ≡ errors.old ++ errors_of (class_details eapi values.now.bytes.now class)) }
+    requires { language_of class ≡ dependency }
+    ensures dep { IfOk result (λ dep. dep ≡ dep_in eapi text.now class) }
+    ensures errors { OnOk result (errors.new ≡ errors.old ++ errors_of (class_details eapi text.now class)) }
 {
     if !has_class(eapi, class) {
         return Ok(Some(DepExpr::new(alloc)));
     }
-    match read_dep(alloc, values.of_class(class)) {
+    match read_dep(alloc, text.of_class(class)) {
         Ok(dep) => Ok(Some(dep)),
         Err(ExprFault::Bad { token, kind }) => {
             note_token(alloc, class, token, kind, errors)?;
@@ -71,20 +68,19 @@ fn dep_in(
 fn body_of(
     alloc: Global,
     eapi: Eapi,
-    values: &Values,
+    text: &EntryText<'_>,
     errors: &mut EntryErrors,
 ) -> Result<Body, NoMemory>
-    requires { AreValues values.now }
-    ensures body { IfOk result (λ body. body ≡ body_of (Some eapi) values.now.bytes.now) }
-    ensures errors { OnOk result (errors.new ≡ errors.old ++ errors_of (body_details eapi values.now.bytes.now)) }
+    ensures body { IfOk result (λ body. body ≡ body_of (Some eapi) text.now) }
+    ensures errors { OnOk result (errors.new ≡ errors.old ++ errors_of (body_details eapi text.now)) }
 {
     Ok(Body {
-        required: required_in(alloc, eapi, values, errors)?,
-        depend: dep_in(alloc, eapi, values, Class::Depend, errors)?,
-        bdepend: dep_in(alloc, eapi, values, Class::Bdepend, errors)?,
-        rdepend: dep_in(alloc, eapi, values, Class::Rdepend, errors)?,
-        pdepend: dep_in(alloc, eapi, values, Class::Pdepend, errors)?,
-        idepend: dep_in(alloc, eapi, values, Class::Idepend, errors)?,
+        required: required_in(alloc, eapi, text, errors)?,
+        depend: dep_in(alloc, eapi, text, Class::Depend, errors)?,
+        bdepend: dep_in(alloc, eapi, text, Class::Bdepend, errors)?,
+        rdepend: dep_in(alloc, eapi, text, Class::Rdepend, errors)?,
+        pdepend: dep_in(alloc, eapi, text, Class::Pdepend, errors)?,
+        idepend: dep_in(alloc, eapi, text, Class::Idepend, errors)?,
     })
 }
 
@@ -102,17 +98,6 @@ fn empty_body(alloc: Global) -> Body
     }
 }
 
-fn version_in(alloc: Global, bytes: &[u8]) -> Result<Version, NoMemory>
-    requires { is_version bytes.now ≡ true }
-    ensures { IfOk result (λ version. version ≡ bytes.now) }
-{
-    match read_version(alloc, bytes) {
-        Ok(version) => Ok(version),
-        Err(VersionFault::NoMemory) => Err(NoMemory),
-        Err(_) => unreachable!(),
-    }
-}
-
 // The name and the version that a PF is divided into. A place past 2^32 finds no memory.
 fn name_and_version(alloc: Global, pf: &[u8]) -> Result<(Text, Version), NoMemory>
     requires { IsSome (split_pf pf.now) }
@@ -127,7 +112,9 @@ fn name_and_version(alloc: Global, pf: &[u8]) -> Result<(Text, Version), NoMemor
     let [_, version @ ..] = behind else {
         unreachable!();
     };
-    Ok((Text::of(alloc, name)?, version_in(alloc, version)?))
+    let name = Text::of(alloc, name)?;
+    let version = Version::of(alloc, version)?;
+    Ok((name, version))
 }
 
 // The package whose entry it is.
@@ -145,16 +132,15 @@ struct EntryWords {
     properties: Texts,
 }
 
-fn words_in(alloc: Global, values: &Values) -> Result<EntryWords, NoMemory>
-    requires { AreValues values.now }
-    ensures keywords { IfOk result (λ words. words.keywords ≡ tokens_of (value_of (codes "KEYWORDS") values.now.bytes.now)) }
-    ensures iuse { IfOk result (λ words. words.iuse ≡ tokens_of (value_of (codes "IUSE") values.now.bytes.now)) }
-    ensures properties { IfOk result (λ words. words.properties ≡ tokens_of (value_of (codes "PROPERTIES") values.now.bytes.now)) }
+fn words_in(alloc: Global, text: &EntryText<'_>) -> Result<EntryWords, NoMemory>
+    ensures keywords { IfOk result (λ words. words.keywords ≡ tokens_of (value_of (codes "KEYWORDS") text.now)) }
+    ensures iuse { IfOk result (λ words. words.iuse ≡ tokens_of (value_of (codes "IUSE") text.now)) }
+    ensures properties { IfOk result (λ words. words.properties ≡ tokens_of (value_of (codes "PROPERTIES") text.now)) }
 {
     Ok(EntryWords {
-        keywords: tokens_of(alloc, values.keywords)?,
-        iuse: tokens_of(alloc, values.iuse)?,
-        properties: tokens_of(alloc, values.properties)?,
+        keywords: tokens_of(alloc, text.value_of(b"KEYWORDS"))?,
+        iuse: tokens_of(alloc, text.value_of(b"IUSE"))?,
+        properties: tokens_of(alloc, text.value_of(b"PROPERTIES"))?,
     })
 }
 
@@ -222,16 +208,15 @@ fn head_of(
     alloc: Global,
     named: &Named,
     eapi: Eapi,
-    values: &Values,
+    text: &EntryText<'_>,
     errors: &mut EntryErrors,
 ) -> Result<Option<Pkg>, NoMemory>
-    requires pf { IsSome (split_pf named.now.pf.now) }
-    requires values { AreValues values.now }
-    ensures head { IfOk result (λ head. head ≡ head_of named.now.category.now named.now.pf.now (Some eapi) values.now.bytes.now) }
-    ensures errors { OnOk result (errors.new ≡ errors.old ++ errors_of (head_details values.now.bytes.now)) }
+    requires { IsSome (split_pf named.now.pf.now) }
+    ensures head { IfOk result (λ head. head ≡ head_of named.now.category.now named.now.pf.now (Some eapi) text.now) }
+    ensures errors { OnOk result (errors.new ≡ errors.old ++ errors_of (head_details text.now)) }
 {
-    let slots = slot_of(alloc, values.slot)?;
-    let words = words_in(alloc, values)?;
+    let slots = slot_of(alloc, text.value_of(b"SLOT"))?;
+    let words = words_in(alloc, text)?;
     let bad = (bad_keyword(&words.keywords), bad_flag(&words.iuse));
     note_head(alloc, slots.is_some(), bad, errors)?;
     let head = head_with(alloc, named, eapi, slots, bad, words)?;
@@ -241,17 +226,16 @@ fn head_of(
 // The entry with this package, these expressions and errors.
 fn entry_with(
     alloc: Global,
-    values: &Values,
+    text: &EntryText<'_>,
     head: Option<Pkg>,
     body: Body,
     errors: EntryErrors,
 ) -> Result<Entry, NoMemory>
-    requires { AreValues values.now }
-    ensures { IfOk result (λ entry. entry ≡ entry_with values.now.bytes.now head body errors) }
+    ensures { IfOk result (λ entry. entry ≡ entry_with text.now head body errors) }
 {
     Ok(Entry {
-        digest: digest_in(values.md5),
-        eclasses: eclasses_of(alloc, values.eclasses)?,
+        digest: digest_in(text.value_of(b"_md5_")),
+        eclasses: eclasses_of(alloc, text.value_of(b"_eclasses_"))?,
         head,
         body,
         errors,
@@ -270,18 +254,18 @@ pub fn read_entry(
     requires { IsSome (split_pf pf.now) }
     ensures { IfOk result (λ entry. entry ≡ entry_of category.now pf.now bytes.now) }
 {
-    let values = values_of(bytes);
+    let text = EntryText::new(alloc, bytes)?;
     let named = Named { category, pf };
     let mut errors = EntryErrors::new(alloc);
-    match eapi_of(values.eapi) {
+    match eapi_of(text.value_of(b"EAPI")) {
         Some(eapi) => {
-            let head = head_of(alloc, &named, eapi, &values, &mut errors)?;
-            let body = body_of(alloc, eapi, &values, &mut errors)?;
-            entry_with(alloc, &values, head, body, errors)
+            let head = head_of(alloc, &named, eapi, &text, &mut errors)?;
+            let body = body_of(alloc, eapi, &text, &mut errors)?;
+            entry_with(alloc, &text, head, body, errors)
         }
         None => {
             note_text(alloc, b"EAPI: unsupported", &mut errors)?;
-            entry_with(alloc, &values, None, empty_body(alloc), errors)
+            entry_with(alloc, &text, None, empty_body(alloc), errors)
         }
     }
 }

@@ -1,54 +1,69 @@
 //! The values of an entry's keys, and what their words are.
 //!
-//! The values are found in one pass over the lines, each of which is compared with the keys: O(bytes), without memory.
-ghost use Rattle.std.specs.Prelude.{◌≡◌, ℕ, List, [], ◌∷◌, Some, None, codes, drop, map, filter, not, IfOk, MatchOption};
+//! An entry is cut into lines once; the value of a key is looked for among them: O(bytes) for all keys, the memory of a
+//! reference a line.
+ghost use Rattle.std.specs.Prelude.{◌≡◌, [], ◌∷◌, ◌++◌, Some, None, codes, drop, map, filter, not, IfOk, MatchOption};
 ghost use Rattle.std.specs.List.{position_from};
 ghost use Rattle.gv_base.specs.Cut.{after_prefix};
-ghost use Rattle.gv_base.specs.Words.{lines_of};
 ghost use Rattle.gv_facts.specs.Classes.{class_text};
 ghost use Rattle.gv_entry.specs.EntryRead.{has_sign};
-ghost use Rattle.gv_entry.specs.EntryValues.{AreFound, AreValues, eapi_of, is_iuse_word, is_keyword_word, slot_in, slot_of, unmarked, value_of, value_with};
+ghost use Rattle.gv_entry.specs.EntryValues.{eapi_of, is_iuse_word, is_keyword_word, slot_in, slot_of, unmarked, value_of};
 
 use gv_base::{Cut, NoMemory, Text, Texts, next_piece};
-use gv_facts::{Class, Eapi};
+use gv_facts::{Class, Eapi, class_text};
 use gv_version::{is_flag, is_keyword, is_slot};
 use std::alloc::Global;
+use std::marker::Model;
 
-/// The bytes of an entry and the value of each key: what follows the first line's `KEY=`, empty where no line has it.
-#[derive(Clone, Copy)]
-pub struct Values<'a> {
-    pub bytes: &'a [u8],
-    pub md5: &'a [u8],
-    pub eclasses: &'a [u8],
-    pub eapi: &'a [u8],
-    pub slot: &'a [u8],
-    pub keywords: &'a [u8],
-    pub iuse: &'a [u8],
-    pub properties: &'a [u8],
-    pub required: &'a [u8],
-    pub depend: &'a [u8],
-    pub bdepend: &'a [u8],
-    pub rdepend: &'a [u8],
-    pub pdepend: &'a [u8],
-    pub idepend: &'a [u8],
+/// The bytes of an entry, cut into lines.
+#[derive(Drop)]
+pub struct EntryText<'a> {
+    bytes: &'a [u8],
+    lines: Vec<&'a [u8]>,
 }
 
-/// The values that the lines read so far have.
-#[derive(Clone, Copy)]
-pub struct Found<'a> {
-    pub md5: Option<&'a [u8]>,
-    pub eclasses: Option<&'a [u8]>,
-    pub eapi: Option<&'a [u8]>,
-    pub slot: Option<&'a [u8]>,
-    pub keywords: Option<&'a [u8]>,
-    pub iuse: Option<&'a [u8]>,
-    pub properties: Option<&'a [u8]>,
-    pub required: Option<&'a [u8]>,
-    pub depend: Option<&'a [u8]>,
-    pub bdepend: Option<&'a [u8]>,
-    pub rdepend: Option<&'a [u8]>,
-    pub pdepend: Option<&'a [u8]>,
-    pub idepend: Option<&'a [u8]>,
+impl<'a> Model for EntryText<'a> {
+    ghost use Rattle.std.specs.Prelude.{◌≡◌, List, ℕ, map};
+    ghost use Rattle.gv_base.specs.Words.{lines_of};
+
+    ghost Value = { List ℕ };
+
+    ghost view = { λ t. t.bytes.now };
+
+    ghost invariant = { λ t. map (λ line. line.now) t.lines.items ≡ lines_of t.bytes.now };
+}
+
+impl<'a> EntryText<'a> {
+    /// These bytes.
+    pub fn new(alloc: Global, bytes: &'a [u8]) -> Result<EntryText<'a>, NoMemory>
+        ensures { IfOk result (λ text. text ≡ bytes.now) }
+    {
+        let mut lines = Vec::new(alloc);
+        let mut rest = Some(bytes);
+        while let Some(line) = next_piece(&mut rest, Cut::Lines) {
+            lines.push(line)?;
+        }
+        Ok(EntryText { bytes, lines })
+    }
+
+    /// The value of the key: what follows `KEY=` in the first line that begins so, empty where none does.
+    pub fn value_of(&self, key: &[u8]) -> &'a [u8]
+        ensures { result.now ≡ value_of key.now self.now }
+    {
+        for line in self.lines.iter() {
+            if let Some(value) = value_in(key, line) {
+                return value;
+            }
+        }
+        b""
+    }
+
+    /// The value of the class's key.
+    pub fn of_class(&self, class: Class) -> &'a [u8]
+        ensures { result.now ≡ value_of (class_text class) self.now }
+    {
+        self.value_of(class_text(class))
+    }
 }
 
 fn after_prefix<'a>(prefix: &[u8], line: &'a [u8]) -> Option<&'a [u8]>
@@ -57,115 +72,14 @@ fn after_prefix<'a>(prefix: &[u8], line: &'a [u8]) -> Option<&'a [u8]>
     line.strip_prefix(prefix)
 }
 
-// What follows the prefix in the line, unless an earlier line had it.
-fn first<'a>(found: Option<&'a [u8]>, prefix: &[u8], line: &'a [u8]) -> Option<&'a [u8]>
-    ensures { (lines : List (List ℕ)) → value_with result prefix.now lines ≡ value_with found.entry prefix.now (line.now ∷ lines) }
+// What follows the key and `=` in the line.
+#[tactic(auto, using(crate::proofs::KeyLines::other_key, crate::proofs::KeyLines::key_there))]
+fn value_in<'a>(key: &[u8], line: &'a [u8]) -> Option<&'a [u8]>
+    ensures { MatchOption result (after_prefix (key.now ++ codes "=") line.now ≡ None) (λ value. after_prefix (key.now ++ codes "=") line.now ≡ Some value.now) }
 {
-    match found {
-        Some(value) => Some(value),
-        None => after_prefix(prefix, line),
-    }
-}
-
-// The values with those of one more line.
-fn noted<'a>(found: &Found<'a>, line: &'a [u8]) -> Found<'a>
-    ensures { (lines : List (List ℕ)) (text : List ℕ) → AreFound found.now (line.now ∷ lines) text → AreFound result lines text }
-{
-    Found {
-        md5: first(found.md5, b"_md5_=", line),
-        eclasses: first(found.eclasses, b"_eclasses_=", line),
-        eapi: first(found.eapi, b"EAPI=", line),
-        slot: first(found.slot, b"SLOT=", line),
-        keywords: first(found.keywords, b"KEYWORDS=", line),
-        iuse: first(found.iuse, b"IUSE=", line),
-        properties: first(found.properties, b"PROPERTIES=", line),
-        required: first(found.required, b"REQUIRED_USE=", line),
-        depend: first(found.depend, b"DEPEND=", line),
-        bdepend: first(found.bdepend, b"BDEPEND=", line),
-        rdepend: first(found.rdepend, b"RDEPEND=", line),
-        pdepend: first(found.pdepend, b"PDEPEND=", line),
-        idepend: first(found.idepend, b"IDEPEND=", line),
-    }
-}
-
-fn none_found<'a>() -> Found<'a>
-    ensures { (text : List ℕ) → AreFound result (lines_of text) text }
-{
-    Found {
-        md5: None,
-        eclasses: None,
-        eapi: None,
-        slot: None,
-        keywords: None,
-        iuse: None,
-        properties: None,
-        required: None,
-        depend: None,
-        bdepend: None,
-        rdepend: None,
-        pdepend: None,
-        idepend: None,
-    }
-}
-
-fn found_in<'a>(bytes: &'a [u8]) -> Found<'a>
-    ensures { AreFound result [] bytes.now }
-{
-    let mut found = none_found();
-    let mut rest = Some(bytes);
-    while let Some(line) = next_piece(&mut rest, Cut::Lines) {
-        found = noted(&found, line);
-    }
-    found
-}
-
-fn or_empty<'a>(found: Option<&'a [u8]>) -> &'a [u8]
-    ensures { (prefix : List ℕ) → result.now ≡ value_with found.entry prefix [] }
-{
-    match found {
-        Some(value) => value,
-        None => b"",
-    }
-}
-
-/// The values of an entry's keys.
-pub fn values_of<'a>(bytes: &'a [u8]) -> Values<'a>
-    ensures values { AreValues result }
-    ensures bytes { result.bytes.now ≡ bytes.now }
-{
-    let found = found_in(bytes);
-    Values {
-        bytes,
-        md5: or_empty(found.md5),
-        eclasses: or_empty(found.eclasses),
-        eapi: or_empty(found.eapi),
-        slot: or_empty(found.slot),
-        keywords: or_empty(found.keywords),
-        iuse: or_empty(found.iuse),
-        properties: or_empty(found.properties),
-        required: or_empty(found.required),
-        depend: or_empty(found.depend),
-        bdepend: or_empty(found.bdepend),
-        rdepend: or_empty(found.rdepend),
-        pdepend: or_empty(found.pdepend),
-        idepend: or_empty(found.idepend),
-    }
-}
-
-impl<'a> Values<'a> {
-    /// The value of the class's key.
-    pub fn of_class(&self, class: Class) -> &'a [u8]
-        requires { AreValues self.now }
-        ensures { result.now ≡ value_of (class_text class) self.now.bytes.now }
-    {
-        match class {
-            Class::Required => self.required,
-            Class::Depend => self.depend,
-            Class::Bdepend => self.bdepend,
-            Class::Rdepend => self.rdepend,
-            Class::Pdepend => self.pdepend,
-            Class::Idepend => self.idepend,
-        }
+    match after_prefix(key, line) {
+        Some(rest) => after_prefix(b"=", rest),
+        None => None,
     }
 }
 

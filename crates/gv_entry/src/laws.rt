@@ -1,37 +1,76 @@
-//! Laws of the definitions: each function does nothing, and its contract holds of all texts, packages, profiles and
-//! expressions.
-ghost use Rattle.std.specs.Prelude.{◌≡◌, ◌==◌, ◌&&◌, ℕ, Bool, List, is_some, length, true, MatchOption};
-ghost use Rattle.std.specs.List.{list_all};
-ghost use Rattle.gv_base.specs.Words.{lines_of};
+//! Laws of the definitions: each function does nothing, and its contract holds of all texts, packages, profiles, expressions and
+//! assignments.
+ghost use Rattle.gv_expr.specs.Dep.{Dep};
 ghost use Rattle.gv_expr.specs.Req.{Req};
-ghost use Rattle.gv_entry.specs.Allowed.{Allowed, Parent, assignment, is_allowed, query_flags};
-ghost use Rattle.gv_entry.specs.Digests.{digest_in};
-ghost use Rattle.gv_entry.specs.EntryValues.{value_of};
-ghost use Rattle.gv_entry.specs.Laws.{IsValue, is_hex_digit};
-ghost use Rattle.gv_entry.specs.Least.{HasNone, IsLeast, least};
+ghost use Rattle.gv_entry.specs.Allowed.{Parent};
+ghost use Rattle.gv_entry.specs.Laws as law;
+ghost use Rattle.std.specs.Prelude.{List};
 
-/// Bits of a query's flags that pass the test are an allowed assignment of all flags.
-#[tactic(auto, using(crate::proofs::AllowedLaw::allowed_at))]
-pub fn allowed_law()
-    ensures { (c : Parent) (required : List Req) (mentions : List (List ℕ)) (bits : List Bool)
-        → is_allowed c required (query_flags c mentions) bits ≡ true → Allowed c required (assignment c (query_flags c mentions) bits) }
+use gv_base::in_order_law;
+
+/// An expression depends on the flags that it mentions alone.
+#[tactic(auto, using(crate::proofs::Alike::depends_on_mentions))]
+pub fn mentions_law()
+    ensures { law.MentionsLaw }
 {}
+
+/// Bits of a query's flags stand for an assignment that fits the flags' states, and an assignment that fits them is, at
+/// every flag that was mentioned, that of its own bits.
+#[tactic(auto, using(crate::proofs::QueryLaw::bits_are))]
+pub fn bits_law()
+    ensures { law.BitsLaw }
+{
+    in_order_law();
+}
+
+/// Bits of a query's flags pass the test exactly where their assignment is allowed, and an assignment that fits the flags'
+/// states is allowed exactly where its bits pass.
+#[tactic(auto, using(crate::proofs::QueryLaw::allowed_is))]
+pub fn allowed_law()
+    ensures { law.AllowedLaw }
+{
+    in_order_law();
+}
+
+/// The same of failing assignments.
+#[tactic(auto, using(crate::proofs::QueryLaw::failing_is))]
+pub fn failing_law()
+    ensures { law.FailingLaw }
+{
+    in_order_law();
+}
 
 /// What is found among all lists of bits is the one that is lesser than every other that passes the test, and nothing is
 /// found only where none passes.
 #[tactic(auto, using(crate::proofs::LeastLaw::least_found))]
 pub fn least_law()
-    ensures { (test : List Bool → Bool) (n : ℕ) → MatchOption (least test n) (HasNone test n) (IsLeast test n) }
+    ensures { law.LeastLaw }
 {}
+
+/// The bits of REQUIRED_USE's flags decide whether any assignment of all flags is allowed, and which is the least.
+pub fn least_allowed_law()
+    ensures { (c : Parent) (required : List Req) → law.LeastAllowedLaw c required }
+{
+    allowed_law();
+    least_law();
+}
+
+/// The bits of a class query's flags decide whether any assignment of all flags is failing, and which is the least.
+pub fn least_failing_law()
+    ensures { (c : Parent) (required : List Req) (class : List Dep) → law.LeastFailingLaw c required class }
+{
+    failing_law();
+    least_law();
+}
 
 /// The value of a key is that of the first line that begins with the key and `=`, and is empty where there is none.
 #[tactic(auto, using(crate::proofs::ValueLaw::value_is))]
 pub fn value_law()
-    ensures { (key text : List ℕ) → IsValue key (value_of key text) (lines_of text) }
+    ensures { law.ValueLaw }
 {}
 
 /// A text is read as a digest exactly where it is 32 hexadecimal digits of either case.
 #[tactic(auto, using(crate::proofs::DigestLaw::digest_there))]
 pub fn digest_law()
-    ensures { (text : List ℕ) → is_some (digest_in text) ≡ (length text == 32 && list_all is_hex_digit text) }
+    ensures { law.DigestLaw }
 {}

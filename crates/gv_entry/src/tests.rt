@@ -1,7 +1,11 @@
 //! Entries made from the rules, line by line: their errors, their packages, digests and eclasses, expressions and copies.
 //! In the tables `&` stands for a line feed.
-use crate::{Entry, allowed_law, digest_law, digest_of, least_law, read_entry, value_law};
+use crate::{
+    Entry, allowed_law, bits_law, class_in, digest_law, digest_of, failing_law, least_allowed_law,
+    least_failing_law, least_law, mentions_law, read_entry, value_law,
+};
 use gv_base::{Text, Texts};
+use gv_facts::Class;
 use gv_version::split_pf;
 use std::alloc::Global;
 use std::process::Abort;
@@ -39,7 +43,7 @@ EAPI=8&SLOT=0 @ \n\
 EAPI=5&SLOT=0 @ \n\
 EAPI=6&SLOT=0 @ \n\
 EAPI=7&SLOT=3.12/a_b @ \n\
- @ EAPI: unsupported\n\
+\u{20}@ EAPI: unsupported\n\
 EAPI=4&SLOT=0 @ EAPI: unsupported\n\
 EAPI=9&SLOT=&KEYWORDS=~&IUSE=?&DEPEND=( @ EAPI: unsupported\n\
 EAPI=08&SLOT=0 @ EAPI: unsupported\n\
@@ -96,9 +100,8 @@ fn has_errors<R: Abort>(rt: &R, alloc: Global, table: &str, want: &str) {
 #[test]
 fn entries_have_these_errors(rt: HostRuntime) {
     for line in ERRORS.lines() {
-        if let Some((table, want)) = line.split_once(" @ ") {
-            has_errors(&rt, rt.alloc(), table, want);
-        }
+        let (table, want) = line.split_once(" @ ").expect(&rt, "a row of two");
+        has_errors(&rt, rt.alloc(), table, want);
     }
 }
 
@@ -120,6 +123,15 @@ fn has_told<R: Abort>(rt: &R, alloc: Global, bytes: &[u8], want: &str) {
     assert_eq!(rt; errors(rt, alloc, &entry).bytes(), want.as_bytes());
 }
 
+// An entry whose REQUIRED_USE has so many tokens.
+fn required_of<R: Abort>(rt: &R, alloc: Global, tokens: usize) -> Text {
+    let mut text = Text::of(alloc, b"EAPI=8\nSLOT=0\nREQUIRED_USE=").expect(rt, "memory");
+    for _ in 0..tokens {
+        text.append(b"a ").expect(rt, "memory");
+    }
+    text
+}
+
 #[test]
 fn depth_random_bytes_and_long_values(rt: HostRuntime) {
     let alloc = rt.alloc();
@@ -132,6 +144,10 @@ fn depth_random_bytes_and_long_values(rt: HostRuntime) {
     has_told(&rt, alloc, bytes, "KEYWORDS: word 1;IUSE: word 2");
     let many = nested(&rt, alloc, 60000);
     has_told(&rt, alloc, many.bytes(), "RDEPEND: token 65: depth");
+    has_told(&rt, alloc, required_of(&rt, alloc, 100_000).bytes(), "");
+    let long = required_of(&rt, alloc, 100_001);
+    let want = "REQUIRED_USE: token 100001: too many tokens";
+    has_told(&rt, alloc, long.bytes(), want);
 }
 
 // Ten thousand lines of other keys, then an entry with so many flags.
@@ -211,16 +227,10 @@ fn is_told<R: Abort>(rt: &R, alloc: Global, pf: &str, table: &str, want: &str) {
 #[test]
 fn entries_are_these_packages(rt: HostRuntime) {
     for line in HEADS.lines() {
-        if let Some((pf, rest)) = line.split_once(" @ ") {
-            if let Some((table, want)) = rest.split_once(" @ ") {
-                is_told(&rt, rt.alloc(), pf, table, want);
-            }
-        }
+        let (pf, rest) = line.split_once(" @ ").expect(&rt, "a row of three");
+        let (table, want) = rest.split_once(" @ ").expect(&rt, "a row of three");
+        is_told(&rt, rt.alloc(), pf, table, want);
     }
-    allowed_law();
-    least_law();
-    value_law();
-    digest_law();
 }
 
 /// The MD5 of the test suite of RFC 1321, and its messages.
@@ -253,10 +263,9 @@ d41d8cd98f00b204e9800998ecf842\n\
 #[test]
 fn digests_are_md5(rt: HostRuntime) {
     for line in DIGESTS.lines() {
-        if let Some((digits, message)) = line.split_once(' ') {
-            let want = digest(&rt, rt.alloc(), digits);
-            assert!(&rt; want == Some(digest_of(message.as_bytes())), "{message}");
-        }
+        let (digits, message) = line.split_once(' ').expect(&rt, "a row of two");
+        let want = digest(&rt, rt.alloc(), digits);
+        assert!(&rt; want == Some(digest_of(message.as_bytes())), "{message}");
     }
     for line in NO_DIGESTS.lines() {
         assert!(&rt; digest(&rt, rt.alloc(), line).is_none(), "{line}");
@@ -265,7 +274,7 @@ fn digests_are_md5(rt: HostRuntime) {
 
 /// Values of `_eclasses_` with `|` for a tab and `H` for 32 digits, and the names of the eclasses, behind ` @ `.
 const ECLASSES: &str = "\
- @ \n\
+\u{20}@ \n\
 python-r1|H @ python-r1\n\
 python-r1|H|multi|H @ python-r1 multi\n\
 a|H|a|H @ a a\n\
@@ -318,36 +327,42 @@ fn eclass_names<R: Abort>(rt: &R, alloc: Global, entry: &Entry) -> Text {
 fn eclasses_are_pairs_of_a_name_and_a_digest(rt: HostRuntime) {
     let alloc = rt.alloc();
     for line in ECLASSES.lines() {
-        if let Some((value, want)) = line.split_once(" @ ") {
-            let text = eclasses(&rt, alloc, value);
-            let entry = read(&rt, alloc, "q-1", text.bytes())
-                .copy(alloc)
-                .expect(&rt, "memory");
-            assert_eq!(&rt; eclass_names(&rt, alloc, &entry).bytes(), want.as_bytes());
-        }
+        let (value, want) = line.split_once(" @ ").expect(&rt, "a row of two");
+        let text = eclasses(&rt, alloc, value);
+        let entry = read(&rt, alloc, "q-1", text.bytes())
+            .copy(alloc)
+            .expect(&rt, "memory");
+        assert_eq!(&rt; eclass_names(&rt, alloc, &entry).bytes(), want.as_bytes());
     }
+}
+
+fn append_count<R: Abort>(rt: &R, text: &mut Text, count: Option<usize>) {
+    let digit = match count {
+        None => b"-",
+        Some(0) => b"0",
+        Some(1) => b"1",
+        Some(2) => b"2",
+        Some(_) => b"m",
+    };
+    text.append(digit).expect(rt, "memory");
 }
 
 // How many trees stand at the top of each expression, `-` where one is broken.
 fn counts<R: Abort>(rt: &R, alloc: Global, entry: &Entry) -> Text {
-    let body = &entry.body;
-    let required = body.required.as_ref().map(|e| e.items().len());
-    let depend = body.depend.as_ref().map(|e| e.items().len());
-    let bdepend = body.bdepend.as_ref().map(|e| e.items().len());
-    let rdepend = body.rdepend.as_ref().map(|e| e.items().len());
-    let pdepend = body.pdepend.as_ref().map(|e| e.items().len());
-    let idepend = body.idepend.as_ref().map(|e| e.items().len());
     let mut text = Text::of(alloc, b"").expect(rt, "memory");
-    for count in [required, depend, bdepend, rdepend, pdepend, idepend] {
-        let digit = match count {
-            None => b"-",
-            Some(0) => b"0",
-            Some(1) => b"1",
-            Some(2) => b"2",
-            Some(_) => b"m",
-        };
-        text.append(digit).expect(rt, "memory");
+    let required = entry.body.required.as_ref().map(|e| e.items().len());
+    append_count(rt, &mut text, required);
+    for class in [
+        Class::Depend,
+        Class::Bdepend,
+        Class::Rdepend,
+        Class::Pdepend,
+        Class::Idepend,
+    ] {
+        let count = class_in(&entry.body, class).map(|e| e.items().len());
+        append_count(rt, &mut text, count);
     }
+    assert!(rt; class_in(&entry.body, Class::Required).is_none());
     text
 }
 
@@ -366,12 +381,20 @@ EAPI=8&SLOT=/&IUSE=?&PDEPEND=x/y @ 000010";
 fn expressions_are_read_where_the_eapi_has_the_class(rt: HostRuntime) {
     let alloc = rt.alloc();
     for line in BODIES.lines() {
-        if let Some((table, want)) = line.split_once(" @ ") {
-            let text = lines(&rt, alloc, table);
-            let entry = read(&rt, alloc, "q-1", text.bytes())
-                .copy(alloc)
-                .expect(&rt, "memory");
-            assert_eq!(&rt; counts(&rt, alloc, &entry).bytes(), want.as_bytes());
-        }
+        let (table, want) = line.split_once(" @ ").expect(&rt, "a row of two");
+        let text = lines(&rt, alloc, table);
+        let entry = read(&rt, alloc, "q-1", text.bytes())
+            .copy(alloc)
+            .expect(&rt, "memory");
+        assert_eq!(&rt; counts(&rt, alloc, &entry).bytes(), want.as_bytes());
     }
+    mentions_law();
+    bits_law();
+    allowed_law();
+    failing_law();
+    least_law();
+    least_allowed_law();
+    least_failing_law();
+    value_law();
+    digest_law();
 }

@@ -15,11 +15,11 @@ unreachable-requires c =
     let behind = ap length c.split_at.ensures.back in
     omega (arith, inside, behind, c.in_default-behind.len_below, length-drop c.in-Some.hyphen c.args.pf.now)
 
-pub version_in-requires : goal.version_in-requires
-version_in-requires c =
+pub of-requires-2 : goal.of-requires-2
+of-requires-2 c =
     let there = ((c.split_pf_law.ensures c.args.pf.now).there c.in-Some.hyphen c.in-Some.ensures.some).1 in
     rw c.split_at.ensures.back (subst (λ v. is_version v ≡ true) (sym (behind_hyphen c.args.pf.now c.in-Some.hyphen)) there)
 
 pub returns-clause-version : goal.returns-clause-version
-returns-clause-version c = c.in_ok-version_in.ensures ∙ rw c.split_at.ensures.back (behind_hyphen c.args.pf.now c.in-Some.hyphen)
+returns-clause-version c = c.in_ok-version.ensures ∙ rw c.split_at.ensures.back (behind_hyphen c.args.pf.now c.in-Some.hyphen)
     ∙ ap (λ o. drop (unwrap_or o 0 + 1) c.args.pf.now) (sym c.in-Some.ensures.some)

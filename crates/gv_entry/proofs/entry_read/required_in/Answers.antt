@@ -7,9 +7,9 @@ use Rattle.gv_entry.proofs.entry_read.required_in.Goals as goal
 
 pub returns-in-Ok-clause-errors : goal.returns-in-Ok-clause-errors
 returns-in-Ok-clause-errors c =
-    required_whole c.args.eapi c.args.values.now.bytes.now c.of_class.result.now c.args.errors.now c.in-Ok.required c.of_class.ensures c.in-Ok.ensures.read
+    required_whole c.args.eapi c.args.text.now c.of_class.result.now c.args.errors.now c.in-Ok.required c.of_class.ensures c.in-Ok.ensures.read
 
 pub returns-in_ok-note_token-in-Err-Bad-clause-errors : goal.returns-in_ok-note_token-in-Err-Bad-clause-errors
 returns-in_ok-note_token-in-Err-Bad-clause-errors c =
-    required_broken c.args.eapi c.args.values.now.bytes.now c.of_class.result.now c.args.errors.now c.note_token.new.errors c.in-Err-Bad.token c.in-Err-Bad.kind c.of_class.ensures
+    required_broken c.args.eapi c.args.text.now c.of_class.result.now c.args.errors.now c.note_token.new.errors c.in-Err-Bad.token c.in-Err-Bad.kind c.of_class.ensures
     (subst (FaultIs (first_fault required_use (tokens_of c.of_class.result.now))) c.in-Err-Bad.field-0-is c.in-Err-Bad.ensures.bad) c.in_ok-note_token-in-Err-Bad.ensures

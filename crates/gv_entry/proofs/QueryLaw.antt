@@ -1,0 +1,277 @@
+-- What the test of a query's bits says of all assignments.
+use Rattle.std.proofs.Common.{◌≡◌, ◌≢◌, ◌↔◌, ℕ, Bool, true, false, cond, ◌||◌, not, if◌then◌else◌, List, [], ◌∷◌, ◌++◌, length, map, filter, refl, sym, subst, ap, ◌∙◌, Option, Some, None}
+use Rattle.std.proofs.lemmas.Bool.{false≢true, and_from, and_parts}
+use Rattle.std.proofs.lemmas.Cmp.{nat_list_eq_equiv}
+use Rattle.std.proofs.lemmas.List.{length-map}
+use Rattle.std.specs.Cmp.Lexicographic.{same_text}
+use Rattle.std.specs.List.{list_all}
+use Rattle.std.specs.Option.{MatchOption}
+use Rattle.std.specs.Str.{bytes_eq}
+use Rattle.gv_base.specs.Laws.{InOrderLaw}
+use Rattle.gv_base.specs.Least.{HasNone, IsLeast, Lesser}
+use Rattle.gv_base.specs.Order.{has_text, in_order}
+use Rattle.gv_expr.specs.Dep.{Dep, deps}
+use Rattle.gv_expr.specs.Mentioned.{dep_mentions, req_mentions}
+use Rattle.gv_expr.specs.Req.{Req, reqs}
+use Rattle.gv_facts.specs.declared.kinds.FlagState.{FlagState}
+use Rattle.gv_facts.specs.declared.kinds.FlagState.TheVariants.{Absent, Off, On, Free}
+use Rattle.gv_entry.specs.Allowed.{Allowed, Failing, IsFit, Parent, agrees, assignment, bit_or, class_holds, is_allowed, is_failing, is_forced, is_free, item_holds, parent_state, query_flags, required_holds}
+use Rattle.gv_entry.specs.Holds.{empty_holds}
+use Rattle.gv_entry.specs.Laws.{Agree, AllowedLaw, BitsLaw, FailingLaw, LeastAllowedLaw, LeastFailingLaw, LeastLaw, MentionsLaw}
+use Rattle.gv_entry.specs.Least.{least}
+use Rattle.gv_entry.specs.LeastAssignments.{IsLeastAllowed, IsLeastFailing, NoneAllowed, NoneFailing}
+use Rattle.gv_entry.specs.Queries.{class_flags, required_flags}
+use Rattle.gv_entry.proofs.Alike.{agree_behind, agree_front, depends_on_mentions, or_here}
+
+-- The assignment of an assignment's bits.
+module _ (on : List ℕ → Bool) (flag : List ℕ) where
+  at_flags : (fs : List (List ℕ)) (other : Bool) → has_text fs flag ≡ true → bit_or fs (map on fs) flag other ≡ on flag
+  at_flags [] other h = absurd (false≢true h)
+  at_flags (f ∷ fs) other h = by (bytes_eq f flag) refl (at_flags fs other)
+    where
+      by : (b : Bool) → bytes_eq f flag ≡ b → (has_text fs flag ≡ true → bit_or fs (map on fs) flag other ≡ on flag) → (if b then on f else bit_or fs (map on fs) flag other) ≡ on flag
+      by true e later = ap on (same_text f flag (sym e))
+      by false e later = later (ap (λ b. b || has_text fs flag) (sym (nat_list_eq_equiv.symm flag f ∙ e)) ∙ h)
+
+not_among : (fs : List (List ℕ)) (bits : List Bool) (flag : List ℕ) (other : Bool) → has_text fs flag ≡ false → bit_or fs bits flag other ≡ other
+not_among [] bits flag other h = refl
+not_among (f ∷ fs) [] flag other h = refl
+not_among (f ∷ fs) (b ∷ bs) flag other h = by (bytes_eq f flag) refl (not_among fs bs flag other)
+  where
+    by : (same : Bool) → bytes_eq f flag ≡ same → (has_text fs flag ≡ false → bit_or fs bs flag other ≡ other) → (if same then b else bit_or fs bs flag other) ≡ other
+    by true e later = absurd (false≢true (sym h ∙ or_here (bytes_eq flag f) (has_text fs flag) (nat_list_eq_equiv.symm flag f ∙ e)))
+    by false e later = later (ap (λ b. b || has_text fs flag) (sym (nat_list_eq_equiv.symm flag f ∙ e)) ∙ h)
+
+-- A filter on flags.
+module _ (p : List ℕ → Bool) (flag : List ℕ) where
+  filtered_out : (fs : List (List ℕ)) → p flag ≡ false → has_text (filter p fs) flag ≡ false
+  filtered_out [] h = refl
+  filtered_out (f ∷ fs) h = by (p f) refl (filtered_out fs h)
+    where
+      by : (b : Bool) → p f ≡ b → has_text (filter p fs) flag ≡ false → has_text (cond b (f ∷ filter p fs) (filter p fs)) flag ≡ false
+      by true e later = other (bytes_eq flag f) refl
+        where
+          other : (same : Bool) → bytes_eq flag f ≡ same → (same || has_text (filter p fs) flag) ≡ false
+          other true k = absurd (false≢true (sym h ∙ (ap p (same_text flag f (sym k)) ∙ e)))
+          other false k = later
+      by false e later = later
+
+  filtered_in : (fs : List (List ℕ)) → p flag ≡ true → has_text fs flag ≡ true → has_text (filter p fs) flag ≡ true
+  filtered_in [] h k = k
+  filtered_in (f ∷ fs) h k = by (p f) refl (filtered_in fs h)
+    where
+      by : (b : Bool) → p f ≡ b → (has_text fs flag ≡ true → has_text (filter p fs) flag ≡ true) → has_text (cond b (f ∷ filter p fs) (filter p fs)) flag ≡ true
+      by true e later = either (bytes_eq flag f) refl
+        where
+          either : (same : Bool) → bytes_eq flag f ≡ same → (same || has_text (filter p fs) flag) ≡ true
+          either true m = refl
+          either false m = later (ap (λ b. b || has_text fs flag) (sym m) ∙ k)
+      by false e later = later (ap (λ b. b || has_text fs flag) (sym not_it) ∙ k)
+        where
+          not_it : bytes_eq flag f ≡ false
+          not_it = apart (bytes_eq flag f) refl
+            where
+              apart : (same : Bool) → bytes_eq flag f ≡ same → same ≡ false
+              apart true m = absurd (false≢true (sym e ∙ (ap p (sym (same_text flag f (sym m))) ∙ h)))
+              apart false m = refl
+
+-- States and bits.
+not_true : (b : Bool) → not b ≡ true → b ≡ false
+not_true true h = absurd (false≢true h)
+not_true false h = refl
+
+forced_unless_free : (s : FlagState) (bit : Bool) → is_free s ≡ false → agrees s bit ≡ true → bit ≡ is_forced s
+forced_unless_free Free bit h a = absurd (false≢true (sym h))
+forced_unless_free On bit h a = a
+forced_unless_free Off bit h a = not_true bit a
+forced_unless_free Absent bit h a = not_true bit a
+
+-- The assignment of bits fits the states.
+forced_agrees : (s : FlagState) → agrees s (is_forced s) ≡ true
+forced_agrees On = refl
+forced_agrees Off = refl
+forced_agrees Free = refl
+forced_agrees Absent = refl
+
+free_agrees : (s : FlagState) (bit : Bool) → is_free s ≡ true → agrees s bit ≡ true
+free_agrees Free bit h = refl
+free_agrees On bit h = absurd (false≢true h)
+free_agrees Off bit h = absurd (false≢true h)
+free_agrees Absent bit h = absurd (false≢true h)
+
+module _ (states : List ℕ → FlagState) where
+  -- of flags that are all free
+  bits_agree : (flags : List (List ℕ)) → list_all (λ f. is_free (states f)) flags ≡ true → (bits : List Bool) (flag : List ℕ)
+      → agrees (states flag) (bit_or flags bits flag (is_forced (states flag))) ≡ true
+  bits_agree [] free bits flag = forced_agrees (states flag)
+  bits_agree (f ∷ fs) free [] flag = forced_agrees (states flag)
+  bits_agree (f ∷ fs) free (b ∷ bs) flag =
+      let parts = and_parts (is_free (states f)) (list_all (λ g. is_free (states g)) fs) free in
+      here (bytes_eq f flag) refl parts.0 (bits_agree fs parts.1 bs flag)
+    where
+      here : (same : Bool) → bytes_eq f flag ≡ same → is_free (states f) ≡ true → agrees (states flag) (bit_or fs bs flag (is_forced (states flag))) ≡ true
+          → agrees (states flag) (if same then b else bit_or fs bs flag (is_forced (states flag))) ≡ true
+      here true e free_f later = free_agrees (states flag) b (subst (λ g. is_free (states g) ≡ true) (same_text f flag (sym e)) free_f)
+      here false e free_f later = later
+
+  filtered : (flags : List (List ℕ)) → list_all (λ f. is_free (states f)) (filter (λ f. is_free (states f)) flags) ≡ true
+  filtered [] = refl
+  filtered (f ∷ fs) = keeps (is_free (states f)) refl (filtered fs)
+    where
+      keeps : (free : Bool) → is_free (states f) ≡ free → list_all (λ g. is_free (states g)) (filter (λ g. is_free (states g)) fs) ≡ true
+          → list_all (λ g. is_free (states g)) (cond free (f ∷ filter (λ g. is_free (states g)) fs) (filter (λ g. is_free (states g)) fs)) ≡ true
+      keeps true e rest = and_from (is_free (states f)) (list_all (λ g. is_free (states g)) (filter (λ g. is_free (states g)) fs)) e rest
+      keeps false e rest = rest
+
+bits_fit : (c : Parent) (mentions : List (List ℕ)) (bits : List Bool) → IsFit c (assignment c (query_flags c mentions) bits)
+bits_fit c mentions bits = bits_agree (parent_state c) (query_flags c mentions) (filtered (parent_state c) (in_order mentions)) bits
+
+-- an assignment that fits the states is that of its bits, at the flags that are mentioned
+module _ (order : InOrderLaw) (c : Parent) (mentions : List (List ℕ)) (on : List ℕ → Bool) (fit : IsFit c on) where
+  of_bits : Agree on (assignment c (query_flags c mentions) (map on (query_flags c mentions))) mentions
+  of_bits flag mentioned = by (is_free (parent_state c flag)) refl
+    where
+      by : (b : Bool) → is_free (parent_state c flag) ≡ b → on flag ≡ assignment c (query_flags c mentions) (map on (query_flags c mentions)) flag
+      by true e = sym (at_flags on flag (query_flags c mentions) (is_forced (parent_state c flag)) (filtered_in (λ f. is_free (parent_state c f)) flag (in_order mentions) e (sym (order.members mentions flag) ∙ mentioned)))
+      by false e = forced_unless_free (parent_state c flag) (on flag) e (fit flag)
+          ∙ sym (not_among (query_flags c mentions) (map on (query_flags c mentions)) flag (is_forced (parent_state c flag)) (filtered_out (λ f. is_free (parent_state c f)) flag (in_order mentions) e))
+
+pub bits_are : InOrderLaw → BitsLaw
+bits_are order = record { fit = bits_fit; agree = of_bits order }
+
+-- bits that pass, and their assignment
+module _ (c : Parent) (required : List Req) (mentions : List (List ℕ)) (bits : List Bool) where
+  pub allowed_at : is_allowed c required (query_flags c mentions) bits ≡ true → Allowed c required (assignment c (query_flags c mentions) bits)
+  allowed_at h = record { agreeing = bits_fit c mentions bits; required_use = h }
+
+  module _ (class : List Dep) where
+    failing_at : is_failing c required class (query_flags c mentions) bits ≡ true → Failing c required class (assignment c (query_flags c mentions) bits)
+    failing_at h =
+        let both = and_parts (required_holds c required (assignment c (query_flags c mentions) bits)) (not (class_holds c class (assignment c (query_flags c mentions) bits))) h in
+        record { allowed = allowed_at both.0; fails = not_true (class_holds c class (assignment c (query_flags c mentions) bits)) both.1 }
+
+    failing_from : Failing c required class (assignment c (query_flags c mentions) bits) → is_failing c required class (query_flags c mentions) bits ≡ true
+    failing_from h = and_from (required_holds c required (assignment c (query_flags c mentions) bits)) (not (class_holds c class (assignment c (query_flags c mentions) bits))) h.allowed.required_use (ap not h.fails)
+
+-- an assignment that fits the states, and its bits of a query's flags
+module _ (order : InOrderLaw) (c : Parent) (required : List Req) (on : List ℕ → Bool) (fit : IsFit c on) where
+  -- a test that has the value of what holds, says whether it is allowed
+  pub allowed_by : (test : Bool) → required_holds c required on ≡ test → (test ≡ true) ↔ Allowed c required on
+  allowed_by test is = (λ h. record { agreeing = fit; required_use = is ∙ h }, λ h. sym is ∙ h.required_use)
+
+  required_same : (others : List (List ℕ)) → required_holds c required on
+      ≡ is_allowed c required (query_flags c (req_mentions (reqs required) ++ others)) (map on (query_flags c (req_mentions (reqs required) ++ others)))
+  required_same others =
+      let bits = assignment c (query_flags c (req_mentions (reqs required) ++ others)) (map on (query_flags c (req_mentions (reqs required) ++ others))) in
+      depends_on_mentions.required on bits (empty_holds c.pkg.eapi) (reqs required) (agree_front on bits (req_mentions (reqs required)) others (of_bits order c (req_mentions (reqs required) ++ others) on fit))
+
+  allowed_of_required : (is_allowed c required (required_flags c required) (map on (required_flags c required)) ≡ true) ↔ Allowed c required on
+  allowed_of_required = allowed_by (is_allowed c required (required_flags c required) (map on (required_flags c required)))
+      (depends_on_mentions.required on (assignment c (required_flags c required) (map on (required_flags c required))) (empty_holds c.pkg.eapi) (reqs required) (of_bits order c (req_mentions (reqs required)) on fit))
+
+  module _ (class : List Dep) where
+    abbrev bits_on : List ℕ → Bool
+    bits_on = assignment c (class_flags c required class) (map on (class_flags c required class))
+
+    class_same : class_holds c class on ≡ class_holds c class bits_on
+    class_same = depends_on_mentions.class on bits_on c.among c.profile c.level (empty_holds c.pkg.eapi) (deps class)
+        (agree_behind on bits_on (req_mentions (reqs required)) (dep_mentions (deps class)) (of_bits order c (req_mentions (reqs required) ++ dep_mentions (deps class)) on fit))
+
+    items_of_class : map (item_holds c on) class ≡ map (item_holds c bits_on) class
+    items_of_class = depends_on_mentions.items c class on bits_on
+        (agree_behind on bits_on (req_mentions (reqs required)) (dep_mentions (deps class)) (of_bits order c (req_mentions (reqs required) ++ dep_mentions (deps class)) on fit))
+
+    allowed_of_class : (is_allowed c required (class_flags c required class) (map on (class_flags c required class)) ≡ true) ↔ Allowed c required on
+    allowed_of_class = allowed_by (is_allowed c required (class_flags c required class) (map on (class_flags c required class))) (required_same (dep_mentions (deps class)))
+
+    -- what fails among all assignments fails among the bits, and the other way round
+    failing_of_class : (is_failing c required class (class_flags c required class) (map on (class_flags c required class)) ≡ true) ↔ Failing c required class on
+    failing_of_class = (there, back)
+      where
+        there : is_failing c required class (class_flags c required class) (map on (class_flags c required class)) ≡ true → Failing c required class on
+        there h =
+            let both = and_parts (required_holds c required bits_on) (not (class_holds c class bits_on)) h in
+            record {
+              allowed = record { agreeing = fit; required_use = required_same (dep_mentions (deps class)) ∙ both.0 };
+              fails = class_same ∙ not_true (class_holds c class bits_on) both.1;
+            }
+
+        back : Failing c required class on → is_failing c required class (class_flags c required class) (map on (class_flags c required class)) ≡ true
+        back h = and_from (required_holds c required bits_on) (not (class_holds c class bits_on)) (sym (required_same (dep_mentions (deps class))) ∙ h.allowed.required_use) (ap not (sym class_same ∙ h.fails))
+
+pub allowed_is : InOrderLaw → AllowedLaw
+allowed_is order = record {
+  bits = λ c required mentions bits. (allowed_at c required mentions bits, λ h. h.required_use);
+  of_required = λ c required on fit. allowed_of_required order c required on fit;
+  of_class = λ c required class on fit. allowed_of_class order c required on fit class;
+}
+
+pub failing_is : InOrderLaw → FailingLaw
+failing_is order = record {
+  bits = λ c required class mentions bits. (failing_at c required mentions bits class, failing_from c required mentions bits class);
+  of_class = λ c required class on fit. failing_of_class order c required on fit class;
+  items = λ c required class on fit. items_of_class order c required on fit class;
+}
+
+-- The least bits that pass a test on the flags of a query, where it says what holds of assignments.
+module _ (c : Parent) (flags : List (List ℕ)) (test : List Bool → Bool) (Holds : (List ℕ → Bool) → Type 0) (there : (bits : List Bool) → test bits ≡ true → Holds (assignment c flags bits))
+    (back : (on : List ℕ → Bool) → Holds on → test (map on flags) ≡ true) where
+  none_passes : HasNone test (length flags) ↔ ((on : List ℕ → Bool) → Holds on → ⊥)
+  none_passes = (λ none on holds. none (map on flags) (length-map flags on) (back on holds), λ none bits size passes. none (assignment c flags bits) (there bits passes))
+
+  least_passes : (bits : List Bool) → IsLeast test (length flags) bits → (on : List ℕ → Bool) → Holds on → map on flags ≢ bits → Lesser bits (map on flags)
+  least_passes bits is on holds differs = is.lesser (map on flags) (length-map flags on) (back on holds) differs
+
+matched : {P Q : Type 0} {R S : List Bool → Type 0} (found : Option (List Bool)) → (P → Q) → ((bits : List Bool) → R bits → S bits) → MatchOption found P R → MatchOption found Q S
+matched None none some h = none h
+matched (Some bits) none some h = some bits h
+
+pub least_allowed_is : AllowedLaw → LeastLaw → (c : Parent) (required : List Req) → LeastAllowedLaw c required
+least_allowed_is allowed law c required = record { none = none; some = some; found = matched (least test (length flags)) none.0 some (law test (length flags)) }
+  where
+    flags : List (List ℕ)
+    flags = required_flags c required
+
+    test : List Bool → Bool
+    test = is_allowed c required (required_flags c required)
+
+    there : (bits : List Bool) → is_allowed c required (required_flags c required) bits ≡ true → Allowed c required (assignment c (required_flags c required) bits)
+    there bits = (allowed.bits c required (req_mentions (reqs required)) bits).0
+
+    back : (on : List ℕ → Bool) → Allowed c required on → is_allowed c required (required_flags c required) (map on (required_flags c required)) ≡ true
+    back on h = (allowed.of_required c required on h.agreeing).1 h
+
+    none : HasNone (is_allowed c required (required_flags c required)) (length (required_flags c required)) ↔ NoneAllowed c required
+    none = none_passes c (required_flags c required) (is_allowed c required (required_flags c required)) (Allowed c required) there back
+
+    some : (bits : List Bool) → IsLeast (is_allowed c required (required_flags c required)) (length (required_flags c required)) bits → IsLeastAllowed c required bits
+    some bits is = record {
+      size = is.size;
+      allowed = there bits is.has;
+      lesser = least_passes c (required_flags c required) (is_allowed c required (required_flags c required)) (Allowed c required) there back bits is;
+    }
+
+pub least_failing_is : FailingLaw → LeastLaw → (c : Parent) (required : List Req) (class : List Dep) → LeastFailingLaw c required class
+least_failing_is failing law c required class = record { none = none; some = some; found = matched (least test (length flags)) none.0 some (law test (length flags)) }
+  where
+    flags : List (List ℕ)
+    flags = class_flags c required class
+
+    test : List Bool → Bool
+    test = is_failing c required class (class_flags c required class)
+
+    there : (bits : List Bool) → is_failing c required class (class_flags c required class) bits ≡ true → Failing c required class (assignment c (class_flags c required class) bits)
+    there bits = (failing.bits c required class (req_mentions (reqs required) ++ dep_mentions (deps class)) bits).0
+
+    back : (on : List ℕ → Bool) → Failing c required class on → is_failing c required class (class_flags c required class) (map on (class_flags c required class)) ≡ true
+    back on h = (failing.of_class c required class on h.allowed.agreeing).1 h
+
+    none : HasNone (is_failing c required class (class_flags c required class)) (length (class_flags c required class)) ↔ NoneFailing c required class
+    none = none_passes c (class_flags c required class) (is_failing c required class (class_flags c required class)) (Failing c required class) there back
+
+    some : (bits : List Bool) → IsLeast (is_failing c required class (class_flags c required class)) (length (class_flags c required class)) bits → IsLeastFailing c required class bits
+    some bits is = record {
+      size = is.size;
+      failing = there bits is.has;
+      lesser = least_passes c (class_flags c required class) (is_failing c required class (class_flags c required class)) (Failing c required class) there back bits is;
+    }

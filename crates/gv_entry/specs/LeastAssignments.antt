@@ -1,0 +1,30 @@
+-- The least allowed and the least failing assignment, among all assignments of all flags.
+use Rattle.std.specs.Prelude.{◌≡◌, ◌≢◌, ℕ, Bool, List, length, map}
+use Rattle.gv_base.specs.Least.{Lesser}
+use Rattle.gv_expr.specs.Dep.{Dep}
+use Rattle.gv_expr.specs.Req.{Req}
+use Rattle.gv_entry.specs.Allowed.{Parent, Allowed, Failing, assignment}
+use Rattle.gv_entry.specs.Queries.{class_flags, required_flags}
+
+-- a bit for each flag of the query; with the other flags as their states are, they are allowed, and every allowed
+-- assignment that differs at a flag of the query is on at the first of them
+pub record IsLeastAllowed (c : Parent) (required : List Req) (bits : List Bool) : Type 0 where
+  pub size : length bits ≡ length (required_flags c required)
+  pub allowed : Allowed c required (assignment c (required_flags c required) bits)
+  pub lesser : (on : List ℕ → Bool) → Allowed c required on → map on (required_flags c required) ≢ bits
+      → Lesser bits (map on (required_flags c required))
+
+-- no assignment is allowed
+abbrev pub NoneAllowed : Parent → List Req → Type 0
+NoneAllowed c required = (on : List ℕ → Bool) → Allowed c required on → ⊥
+
+-- the same of failing ones
+pub record IsLeastFailing (c : Parent) (required : List Req) (class : List Dep) (bits : List Bool) : Type 0 where
+  pub size : length bits ≡ length (class_flags c required class)
+  pub failing : Failing c required class (assignment c (class_flags c required class) bits)
+  pub lesser : (on : List ℕ → Bool) → Failing c required class on → map on (class_flags c required class) ≢ bits
+      → Lesser bits (map on (class_flags c required class))
+
+-- no assignment is failing
+abbrev pub NoneFailing : Parent → List Req → List Dep → Type 0
+NoneFailing c required class = (on : List ℕ → Bool) → Failing c required class on → ⊥
