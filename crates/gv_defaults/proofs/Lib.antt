@@ -5,4 +5,15 @@ pub mod ItemLemmas
 pub mod ReadLemmas
 pub mod FoldLemmas
 pub mod SetLemmas
-pub mod WrittenLemmas
+pub mod FileExamples
+pub mod PieceExamples
+pub mod ValueExamples
+pub mod VarExamples
+pub mod NameTexts
+pub mod PieceLens
+pub mod PieceMeanings
+pub mod PartReads
+pub mod PieceThere
+pub mod PartThere
+pub mod PartFolds
+pub mod NineNames

@@ -13,10 +13,9 @@ use Rattle.std.specs.FinMap.Entries.{find, below_all, is_sorted}
 use Rattle.std.specs.Cmp.Lexicographic.{nat_list_cmp_total}
 use Rattle.std.proofs.lemmas.Map.Lookups.{exact_bytes}
 use Rattle.std.proofs.lemmas.Map.Text.{is_eq-slice_cmp}
-use Rattle.gv_base.specs.ByteMap.{seen_entry, map_of}
+use Rattle.gv_base.specs.ByteMap.{Bytes, key_cmp, seen_entry, map_of}
+use Rattle.gv_base.specs.Laws.{InOrderLaw, MapLaw}
 use Rattle.gv_base.specs.Order.{byte_cmp, has_text, in_order}
-use Rattle.gv_base.proofs.ByteMaps.{Bytes, key_cmp, entries-map_of}
-use Rattle.gv_base.proofs.TextOrder.{in_order-has}
 use Rattle.gv_defaults.specs.declared.vars.Setting.{Setting}
 use Rattle.gv_defaults.specs.Settings.{VarMap, set_over}
 use Rattle.gv_defaults.specs.Values.{Values, value_in, names_in}
@@ -76,10 +75,10 @@ over_before q None before = refl
 over_before q (Some value) before = refl
 
 -- the entries of a tree set over what was set before
-pub set_entries : (before : VarMap) (es : List (Bytes × List ℕ)) → IsStrictlySortedBy key_cmp (keys_of es) → (q : List ℕ) →
+pub set_entries : (law : MapLaw (List ℕ)) (before : VarMap) (es : List (Bytes × List ℕ)) → IsStrictlySortedBy key_cmp (keys_of es) → (q : List ℕ) →
     get (set_each before before (map seen_entry es)) q ≡ set_to q (get (map_of es) q) (get before q)
-set_entries before es h q =
-    let is : entries (map_of es) ≡ map seen_entry es = entries-map_of es h in
+set_entries law before es h q =
+    let is : entries (map_of es) ≡ map seen_entry es = law.entries es h in
     got_each before before (map seen_entry es) q (subst (λ xs. T (is_sorted byte_cmp xs)) is (entries_sorted (map_of es)))
     ∙ ap (λ xs. set_twice q (find byte_cmp q xs) (get before q) (get before q)) (sym is)
     ∙ ap (λ (o : Option (List ℕ)). set_twice q o (get before q) (get before q)) (sym (get-entries (map_of es) q))
@@ -116,13 +115,13 @@ set_where_there q None before = refl
 set_where_there q (Some value) before = refl
 
 -- what each name is set to behind the file
-pub got_after : (before : VarMap) (bytes q : List ℕ) → get (vars_after before bytes) q ≡ setting_after (get before) bytes q
-got_after before bytes q =
+pub got_after : (law : InOrderLaw) (before : VarMap) (bytes q : List ℕ) → get (vars_after before bytes) q ≡ setting_after (get before) bytes q
+got_after law before bytes q =
     let values = values_after (get before) bytes in
     folds before values before (in_order (names_in values)) q
-    ∙ ap (λ (b : Bool). cond b (Some (set_over q (unwrap_or (value_in values q) []) (get before q))) (get before q)) (sym (in_order-has (names_in values) q) ∙ is_there values q)
+    ∙ ap (λ (b : Bool). cond b (Some (set_over q (unwrap_or (value_in values q) []) (get before q))) (get before q)) (sym (law.members (names_in values) q) ∙ is_there values q)
     ∙ set_where_there q (value_in values q) (get before q)
 
 -- so a map that answers the same is that map
-pub is_after : (before vars : VarMap) (bytes : List ℕ) → ((q : List ℕ) → get vars q ≡ setting_after (get before) bytes q) → vars ≡ vars_after before bytes
-is_after before vars bytes each = same_map nat_list_cmp_total exact_bytes vars (vars_after before bytes) (λ q. each q ∙ sym (got_after before bytes q))
+pub is_after : (law : InOrderLaw) (before vars : VarMap) (bytes : List ℕ) → ((q : List ℕ) → get vars q ≡ setting_after (get before) bytes q) → vars ≡ vars_after before bytes
+is_after law before vars bytes each = same_map nat_list_cmp_total exact_bytes vars (vars_after before bytes) (λ q. each q ∙ sym (got_after law before bytes q))

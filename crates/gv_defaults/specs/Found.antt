@@ -1,4 +1,4 @@
--- A name that was found behind a dollar sign.
+-- What private contracts say of a name that was found behind a dollar sign.
 use Rattle.std.specs.Prelude.{◌≡◌, ℕ, ◌≤◌, List, length, Some}
 use Rattle.gv_defaults.specs.declared.names.Reference.{Reference}
 use Rattle.gv_defaults.specs.Names.{Named, name_behind}

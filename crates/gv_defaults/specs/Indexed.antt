@@ -1,4 +1,4 @@
--- Words with a set beside them.
+-- What private contracts say of words with a set beside them.
 use Rattle.std.specs.Prelude.{◌≡◌, ℕ, List}
 use Rattle.gv_base.specs.Order.{has_text}
 use Rattle.gv_defaults.specs.declared.folding.Indexed.{Indexed}

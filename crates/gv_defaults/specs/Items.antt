@@ -1,4 +1,4 @@
--- A file read from its front, item by item.
+-- What private contracts say of a file that is read item by item.
 use Rattle.std.specs.Prelude.{◌≡◌, ℕ, ◌<◌, ◌≤◌, zero, List, [], Some, length, take, drop}
 use Rattle.gv_defaults.specs.declared.items.Assigned.{Assigned}
 use Rattle.gv_defaults.specs.declared.items.Item.{Item}

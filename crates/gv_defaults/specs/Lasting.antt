@@ -1,13 +1,13 @@
--- Which words of an incremental value last: those that no later word removes.
-use Rattle.std.specs.Prelude.{ℕ, ◌==◌, Bool, false, not, ◌&&◌, ◌||◌, if◌then◌else◌, List, [], ◌∷◌, ◌++◌}
+-- What private contracts say of the words of an incremental value: those last that no later word removes.
+use Rattle.std.specs.Prelude.{ℕ, ◌==◌, Bool, false, not, ◌&&◌, ◌||◌, if◌then◌else◌, List, [], ◌∷◌, ◌++◌, codes}
 use Rattle.std.specs.List.{list_any}
-use Rattle.std.specs.Str.{bytes_eq}
+use Rattle.std.specs.Str.{byte, bytes_eq}
 use Rattle.gv_base.specs.Order.{has_text}
 
 -- whether the word is `-*`, or `-` and the text
 abbrev pub removes : List ℕ → List ℕ → Bool
 removes text [] = false
-removes text (b ∷ bs) = b == 45 && (bytes_eq bs (42 ∷ []) || bytes_eq text bs)
+removes text (b ∷ bs) = b == byte "-" && (bytes_eq bs (codes "*") || bytes_eq text bs)
 
 abbrev pub removed_by : List (List ℕ) → List ℕ → Bool
 removed_by words text = list_any (removes text) words
@@ -15,7 +15,7 @@ removed_by words text = list_any (removes text) words
 -- whether the word adds itself
 abbrev pub adds : List ℕ → Bool
 adds [] = false
-adds (b ∷ bs) = not (b == 45)
+adds (b ∷ bs) = not (b == byte "-")
 
 -- the words that add themselves and that no later one removes, the last first
 abbrev pub lasting : List (List ℕ) → List (List ℕ)

@@ -1,4 +1,4 @@
--- What is known of the words that were passed, from the last on.
+-- What private contracts say of the words that were passed, from the last on.
 use Rattle.std.specs.Prelude.{◌≡◌, ℕ, Bool, ◌||◌, List}
 use Rattle.gv_base.specs.Order.{has_text}
 use Rattle.gv_defaults.specs.declared.folding.Behind.{Behind}

@@ -1,4 +1,4 @@
--- What a file is read as, item by item, and what was read in the end.
+-- What private contracts say of what was read of a file, item by item and in the end.
 use Rattle.std.specs.Prelude.{◌≡◌, ℕ, List, Option, Some, None, zero, fold}
 use Rattle.std.specs.FinMap.{get, insert}
 use Rattle.gv_base.specs.ByteMap.{ByteMap}

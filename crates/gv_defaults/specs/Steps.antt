@@ -1,5 +1,6 @@
--- A value read from its front, piece by piece.
+-- What private contracts say of a value that is read step by step: a byte with those that belong to it.
 use Rattle.std.specs.Prelude.{◌≡◌, ℕ, ◌+◌, ◌-◌, ◌<◌, ◌≤◌, zero, List, [], ◌∷◌, ◌++◌, drop, length}
+use Rattle.std.specs.Str.{byte}
 use Rattle.gv_defaults.specs.declared.quotes.Quotes.{Quotes}
 use Rattle.gv_defaults.specs.declared.steps.Meant.{Meant}
 use Rattle.gv_defaults.specs.declared.steps.Meant.TheVariants.{Nothing, Byte, Backslash, Value}
@@ -9,8 +10,8 @@ use Rattle.gv_defaults.specs.Names.{name_behind}
 
 abbrev pub meant_by : (List ℕ → List ℕ) → Meant → List ℕ
 meant_by look Nothing = []
-meant_by look (Byte byte) = byte ∷ []
-meant_by look (Backslash byte) = 92 ∷ byte ∷ []
+meant_by look (Byte b) = b ∷ []
+meant_by look (Backslash b) = byte "\\" ∷ b ∷ []
 meant_by look (Value name) = look name.now
 
 -- the step takes a front of the bytes, and the meaning of the bytes is that of the front and of what is behind it, whatever the values of names

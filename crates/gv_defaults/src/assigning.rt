@@ -11,7 +11,8 @@ ghost use Rattle.gv_defaults.specs.Items.{IsItem};
 use crate::Vars;
 use crate::items::{Item, first_item};
 use crate::meaning::meaning;
-use gv_base::{NoMemory, Text};
+use crate::room::MAX_BYTES;
+use gv_base::{NoMemory, Text, map_law};
 use std::alloc::Global;
 use std::collections::BTreeMap;
 
@@ -24,16 +25,17 @@ pub(crate) struct Reading {
     pub(crate) bad: Option<u32>,
 }
 
-/// Reads a file up to its first fault. A file with more lines than a number of a line can say is one for which there is no
-/// memory.
+/// Reads a file up to its first fault. A file with more lines than a number of a line can say, or whose values have more
+/// than `MAX_BYTES` bytes together, is one for which there is no memory.
 pub(crate) fn read_file(alloc: Global, bytes: &[u8], before: &Vars) -> Result<Reading, NoMemory>
     ensures { IfOk result (λ reading. IsReading before.now bytes.now (map_of reading.values.entries) reading.bad) }
 {
     let mut values = BTreeMap::new(alloc);
+    let mut room = MAX_BYTES;
     let mut rest = bytes;
     let mut line = 1;
     while let Some(item) = first_item(rest) {
-        match assign(alloc, &mut values, before, rest, item)? {
+        match assign(alloc, &mut values, &mut room, before, rest, item)? {
             None => {
                 return Ok(Reading {
                     values,
@@ -50,10 +52,12 @@ pub(crate) fn read_file(alloc: Global, bytes: &[u8], before: &Vars) -> Result<Re
     Ok(Reading { values, bad: None })
 }
 
-// Sets the value of an assignment; how many bytes the item at the front of the rest has, and none of a fault.
+// Sets the value of an assignment, whose bytes are taken off the room. How many bytes the item at the front of the rest
+// has, and none of a fault.
 fn assign(
     alloc: Global,
     values: &mut BTreeMap<Vec<u8>, Text>,
+    room: &mut usize,
     before: &Vars,
     rest: &[u8],
     item: Item<'_>,
@@ -66,7 +70,8 @@ fn assign(
         Item::Fault => Ok(None),
         Item::Gap { len } => Ok(Some(len)),
         Item::Assignment { assigned } => {
-            let value = meaning(alloc, assigned.text, values, before)?;
+            let value = meaning(alloc, assigned.text, values, before, *room)?;
+            *room = room.saturating_sub(value.bytes().len());
             set_value(alloc, values, assigned.name, value)?;
             Ok(Some(assigned.name.len() + 1 + assigned.text.len()))
         }
@@ -82,6 +87,7 @@ fn set_value(
 ) -> Result<(), NoMemory>
     ensures { OnOk result (map_of values.new.entries ≡ finite.insert (map_of values.old.entries) name.now value) }
 {
+    map_law::<Text>();
     let name = Vec::from_slice(alloc, name)?;
     values.insert(name, value)?;
     Ok(())

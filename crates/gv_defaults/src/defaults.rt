@@ -2,20 +2,20 @@
 //!
 //! `read_defaults` costs O(the bytes of the file, of its values and of the variables before it), and O(log n) comparisons
 //! for each name or word among n. Bytes that a value takes from the values of names count as often as they stand there.
-ghost use Rattle.std.specs.Prelude.{◌≡◌, List, ℕ, IsTrue, IfOk};
+ghost use Rattle.std.specs.Prelude.{◌≡◌, List, Option, ℕ, IfOk};
 ghost use Rattle.std.specs.FinMap as finite;
 ghost use Rattle.gv_base.specs.ByteMap.{map_of};
 ghost use Rattle.gv_defaults.specs.Assignments.{file_of};
 ghost use Rattle.gv_defaults.specs.Defaults.{set_to, setting_after, vars_after};
 ghost use Rattle.gv_defaults.specs.Incremental.{is_incremental};
+ghost use Rattle.gv_defaults.specs.Layout.{IsFile, Part};
+ghost use Rattle.gv_defaults.specs.PartValues.{setting_by, vars_by};
 ghost use Rattle.gv_defaults.specs.Settings.{set_over};
-ghost use Rattle.gv_defaults.specs.Values.{Values};
-ghost use Rattle.gv_defaults.specs.Written.{have_names, written, HasWritten};
 
 use crate::assigning::read_file;
 use crate::folding::with_words;
 use crate::{Setting, Vars};
-use gv_base::{NoMemory, Text, tokens_of};
+use gv_base::{NoMemory, Text, in_order_law, map_law, tokens_of};
 use std::alloc::Global;
 use std::collections::BTreeMap;
 
@@ -45,16 +45,21 @@ impl DefaultsRead {
 /// name counts; then each assigned name is folded, in byte order of names: the words of an incremental variable are taken
 /// in order over those before, the value of another one replaces what it was.
 ///
-/// Want of memory is answered too where a value would have 2^32 bytes or more, and where a line's number has no room.
+/// Want of memory is answered too where the values of the file would have more than 2^28 bytes together, each assignment
+/// counted, and where a line's number has no room.
 pub fn read_defaults(alloc: Global, bytes: &[u8], before: &Vars) -> Result<DefaultsRead, NoMemory>
+    // Where the file is these parts, blanks, comments and assignments, up to its end or to the line of its fault.
+    ensures vars_by { (parts : List Part) (bad : Option ℕ) → IsFile bytes.now parts bad → IfOk result (λ read. read.vars ≡ vars_by before.now parts) }
+    ensures each_by { (parts : List Part) (bad : Option ℕ) → IsFile bytes.now parts bad
+        → IfOk result (λ read. (name : List ℕ) → finite.get read.vars name ≡ setting_by (finite.get before.now) parts name) }
+    ensures bad_by { (parts : List Part) (bad : Option ℕ) → IsFile bytes.now parts bad → IfOk result (λ read. read.bad ≡ bad) }
+
+    // The same, computed from the bytes.
     ensures vars { IfOk result (λ read. read.vars ≡ vars_after before.now bytes.now) }
     ensures each { IfOk result (λ read. (name : List ℕ) → finite.get read.vars name ≡ setting_after (finite.get before.now) bytes.now name) }
     ensures bad { IfOk result (λ read. read.bad ≡ (file_of bytes.now).bad) }
-
-    // What is written in double quotes is read back, whatever bytes it has.
-    ensures written { (values : Values) → IsTrue (have_names values) → bytes.now ≡ written values
-        → IfOk result (λ read. HasWritten before.now values read.vars read.bad) }
 {
+    in_order_law();
     let reading = read_file(alloc, bytes, before)?;
     let vars = fold_values(alloc, before, reading.values)?;
     Ok(DefaultsRead {
@@ -71,6 +76,7 @@ fn fold_values(
 ) -> Result<Vars, NoMemory>
     ensures { IfOk result (λ vars. (name : List ℕ) → finite.get vars name ≡ set_to name (finite.get (map_of values.entries) name) (finite.get before.now name)) }
 {
+    map_law::<Text>();
     let mut vars = before.copy(alloc)?;
     for (name, value) in values {
         let setting = set_over(alloc, before, &name, value)?;

@@ -2,7 +2,7 @@
 //!
 //! From the last word on it is known of each whether a later one removes it; what lasts is then added from the first on,
 //! with a set beside the list. So n words cost O(n log n) comparisons, and each that lasts is copied twice.
-ghost use Rattle.std.specs.Prelude.{◌≡◌, ◌||◌, ◌&&◌, not, if◌then◌else◌, List, ℕ, [], ◌∷◌, ◌++◌, filter, IfOk, OnOk};
+ghost use Rattle.std.specs.Prelude.{◌≡◌, ◌||◌, ◌&&◌, not, codes, if◌then◌else◌, List, ℕ, [], ◌∷◌, ◌++◌, filter, IfOk, OnOk};
 ghost use Rattle.std.specs.Str.{bytes_eq};
 ghost use Rattle.gv_base.specs.Order.{has_text};
 ghost use Rattle.gv_defaults.specs.Incremental.{with_words};
@@ -11,7 +11,7 @@ ghost use Rattle.gv_defaults.specs.Passed.{takes, HasPassed};
 ghost use Rattle.gv_defaults.specs.Indexed.{IsIndexed};
 
 use crate::cut::cut_first;
-use gv_base::{NoMemory, Text, Texts};
+use gv_base::{NoMemory, Text, Texts, in_order_law};
 use std::alloc::Global;
 use std::collections::BTreeSet;
 
@@ -80,7 +80,7 @@ fn pass(alloc: Global, behind: &mut Behind, word: &Text) -> Result<(), NoMemory>
 
 // `-*`, or `-x`.
 fn pass_removal(alloc: Global, behind: &mut Behind, removed: &[u8]) -> Result<(), NoMemory>
-    ensures removed { OnOk result ((text : List ℕ) → takes behind.new text ≡ ((bytes_eq removed.now (42 ∷ []) || bytes_eq text removed.now) || takes behind.old text)) }
+    ensures removed { OnOk result ((text : List ℕ) → takes behind.new text ≡ ((bytes_eq removed.now (codes "*") || bytes_eq text removed.now) || takes behind.old text)) }
     ensures kept { OnOk result (behind.new.kept.items ≡ behind.old.kept.items) }
 {
     if removed == b"*".as_slice() {
@@ -118,6 +118,7 @@ fn has_key(set: &BTreeSet<Text>, word: &Text) -> bool
 fn add_key(set: &mut BTreeSet<Text>, word: Text) -> Result<(), NoMemory>
     ensures { OnOk result ((text : List ℕ) → has_text set.new.keys text ≡ (bytes_eq text word || has_text set.old.keys text)) }
 {
+    in_order_law();
     set.insert(word)?;
     Ok(())
 }

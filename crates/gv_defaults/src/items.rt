@@ -2,6 +2,7 @@
 //!
 //! `first_item` costs O(the bytes that it takes).
 ghost use Rattle.std.specs.Prelude.{◌≡◌, ◌≤◌, ◌∷◌, ◌==◌, false, List, ℕ, [], length, take, MatchOption};
+ghost use Rattle.std.specs.Str.{byte};
 ghost use Rattle.gv_defaults.specs.Quotes.{is_space, value_len};
 ghost use Rattle.gv_defaults.specs.Assignments.{assignment_at, comment_len};
 ghost use Rattle.gv_defaults.specs.Items.{IsItem, IsAssigned};
@@ -9,24 +10,22 @@ ghost use Rattle.gv_defaults.specs.Items.{IsItem, IsAssigned};
 use crate::cut::cut_first;
 use crate::names::name_len;
 use crate::quotes::{is_space, value_len};
+use gv_base::until;
 
-/// An assignment as it stands in the file.
+// An assignment as it stands in the file: its name, and the text of its value with the quotes.
 #[derive(Clone, Copy, Drop)]
 pub(crate) struct Assigned<'a> {
-    /// The name.
     pub(crate) name: &'a [u8],
-    /// The text of the value, with its quotes.
     pub(crate) text: &'a [u8],
 }
 
-/// What stands at the front of what is left of a file.
+// What stands at the front of what is left of a file.
 #[derive(Clone, Copy, Drop)]
 pub(crate) enum Item<'a> {
-    /// A space, tab, carriage return, line feed or comment of so many bytes.
+    // A space, tab, carriage return, line feed or comment of so many bytes.
     Gap { len: usize },
-    /// An assignment.
     Assignment { assigned: Assigned<'a> },
-    /// Bytes that begin no assignment, or an unclosed quote.
+    // Bytes that begin no assignment, or an unclosed quote.
     Fault,
 }
 
@@ -54,16 +53,11 @@ fn comment_len(bytes: &[u8]) -> usize
     ensures within { result ≤ length bytes.now }
     ensures len { result ≡ comment_len bytes.now }
 {
-    for (i, b) in bytes.iter().enumerate() {
-        if *b == b'\n' {
-            return i;
-        }
-    }
-    bytes.len()
+    until(bytes, b'\n').len()
 }
 
 fn assignment_or_fault(bytes: &[u8]) -> Item<'_>
-    ensures { (byte : ℕ) (behind : List ℕ) → bytes.now ≡ byte ∷ behind → is_space byte ≡ false → (byte == 35) ≡ false → IsItem bytes.now result }
+    ensures { (b : ℕ) (behind : List ℕ) → bytes.now ≡ b ∷ behind → is_space b ≡ false → (b == byte "#") ≡ false → IsItem bytes.now result }
 {
     match assignment(bytes) {
         None => Item::Fault,

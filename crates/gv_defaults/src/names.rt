@@ -8,12 +8,11 @@ ghost use Rattle.gv_defaults.specs.Found.{named, IsNamed};
 
 use crate::cut::cut_first;
 
-/// A name behind a dollar sign.
+// A name behind a dollar sign.
 #[derive(Clone, Copy, Drop)]
 pub(crate) struct Reference<'a> {
-    /// The name.
     pub(crate) name: &'a [u8],
-    /// How many bytes it takes behind the dollar sign: braces count.
+    // How many bytes it takes behind the dollar sign: braces count.
     pub(crate) len: usize,
 }
 

@@ -4,14 +4,11 @@
 ghost use Rattle.std.specs.Prelude.{◌≡◌, ◌≤◌, false, length, if◌then◌else◌, IfSome};
 ghost use Rattle.gv_defaults.specs.Quotes.{is_space, quotes_after, escapes, ends, value_len};
 
-/// What a byte of a value stands in.
+// What a byte of a value stands in.
 #[derive(Clone, Copy, Debug, PartialEq, Eq)]
 pub(crate) enum Quotes {
-    /// No quotes.
     Bare,
-    /// Double quotes.
     Double,
-    /// Single quotes.
     Single,
 }
 

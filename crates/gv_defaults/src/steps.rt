@@ -10,31 +10,28 @@ use crate::cut::cut_first;
 use crate::names::{Reference, name_behind};
 use crate::quotes::{Quotes, escapes, quotes_after};
 
-/// What a piece of a value stands for.
+// What a step stands for.
 #[derive(Clone, Copy, Drop)]
 pub(crate) enum Meant<'a> {
-    /// Nothing.
     Nothing,
-    /// This byte.
     Byte { byte: u8 },
-    /// A backslash and this byte.
+    // A backslash that stays, and the byte behind it.
     Backslash { byte: u8 },
-    /// The value of this name.
+    // The value of this name.
     Value { name: &'a [u8] },
 }
 
-/// The first piece of a value.
+// One byte of a value, with those that belong to it: what a backslash takes along, the name behind a dollar sign.
 #[derive(Clone, Copy, Drop)]
 pub(crate) struct Step<'a> {
-    /// What it stands for.
     pub(crate) meant: Meant<'a>,
-    /// How many bytes it has.
+    // In bytes.
     pub(crate) len: usize,
-    /// The quotes behind it.
+    // The quotes behind it.
     pub(crate) quotes: Quotes,
 }
 
-/// The first piece of what is left of a value in these quotes; `None` exactly where nothing is left.
+/// The first step of what is left of a value in these quotes; `None` exactly where nothing is left.
 pub(crate) fn first_step(quotes: Quotes, bytes: &[u8]) -> Option<Step<'_>>
     ensures { MatchOption result (bytes.now ≡ []) (IsStep quotes bytes.now) }
 {

@@ -1,4 +1,4 @@
-use crate::{Vars, read_defaults};
+use crate::{Vars, incremental_law, parts_law, pieces_law, read_defaults};
 use gv_base::{NoMemory, Text};
 use std::alloc::{AllocError, Global};
 
@@ -59,6 +59,9 @@ fn files_are_read_over_what_stood_before(rt: HostRuntime) -> Result<(), &'static
         assert!(rt; words.bytes() == want, "the words of a file");
         assert!(rt; line == bad, "the line of a fault");
     }
+    pieces_law();
+    parts_law();
+    incremental_law();
     Ok(())
 }
 
@@ -99,5 +102,30 @@ fn large_files_are_read(rt: HostRuntime) -> Result<(), &'static str> {
         assert_eq!(rt; words.items().len(), count);
         assert_eq!(rt; text.bytes().len(), bytes);
     }
+    Ok(())
+}
+
+// A value that is doubled thirty times, and ninety-nine names that stand for it.
+fn doubled_file(alloc: Global) -> Result<String, AllocError> {
+    let mut file = String::new(alloc);
+    file.push_str("A=x\n")?;
+    for _ in 0..30 {
+        file.push_str("A=$A$A\n")?;
+    }
+    for i in 1..100u32 {
+        file.push_str(&format!(in alloc; "B{i}=$A\n")?)?;
+    }
+    Ok(file)
+}
+
+#[test]
+fn values_past_their_room_are_refused_at_once(rt: HostRuntime) -> Result<(), &'static str> {
+    let alloc = rt.alloc();
+    let file = doubled_file(alloc).ok().ok_or("no memory")?;
+    let unset = Vars::new(alloc);
+    assert!(rt;
+        read_defaults(alloc, file.as_bytes(), &unset).is_err(),
+        "values past their room"
+    );
     Ok(())
 }

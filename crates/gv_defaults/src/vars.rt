@@ -7,7 +7,7 @@ ghost use Rattle.std.specs.Option.{option_copied};
 ghost use Rattle.gv_defaults.specs.Settings.{text_of, words_of};
 
 use crate::room::append_within;
-use gv_base::{NoMemory, Text, Texts, tokens_of};
+use gv_base::{NoMemory, Text, Texts, map_law, tokens_of};
 use std::alloc::Global;
 use std::collections::BTreeMap;
 use std::marker::Model;
@@ -83,6 +83,7 @@ impl Vars {
     pub fn copy(&self, alloc: Global) -> Result<Vars, NoMemory>
         ensures { IfOk result (λ vars. vars ≡ self.now) }
     {
+        map_law::<Setting>();
         let mut vars = Vars::new(alloc);
         for (name, setting) in self.map.iter() {
             let name = Vec::from_slice(alloc, name)?;
@@ -95,6 +96,7 @@ impl Vars {
     pub(crate) fn get(&self, name: &[u8]) -> Option<&Setting>
         ensures { option_copied result ≡ finite.get self.now name.now }
     {
+        map_law::<Setting>();
         match self.map.get(name) {
             Some(setting) => Some(setting),
             None => None,
@@ -105,17 +107,19 @@ impl Vars {
         ensures ok { OnOk result (self.new ≡ finite.insert self.old name.items setting) }
         ensures err { OnErr result (self.new ≡ self.old) }
     {
+        map_law::<Setting>();
         self.map.insert(name, setting)?;
         Ok(())
     }
 
-    /// Adds what the name stands for at the end of a text: the words of an incremental variable joined by one space, the
-    /// value of another, nothing of a name that isn't set.
+    /// Adds what the name stands for at the end of a text that has this room: the words of an incremental variable joined
+    /// by one space, the value of another, nothing of a name that isn't set.
     pub(crate) fn append_text(
         &self,
         alloc: Global,
         name: &[u8],
         text: &mut Text,
+        room: usize,
     ) -> Result<(), NoMemory>
         ensures { OnOk result (text.new ≡ text.old ++ text_of (finite.get self.now name.now)) }
     {
@@ -123,9 +127,9 @@ impl Vars {
             None => Ok(()),
             Some(Setting::Words { words }) => {
                 let joined = words.joined(alloc, b' ')?;
-                append_within(text, joined.bytes())
+                append_within(text, joined.bytes(), room)
             }
-            Some(Setting::Plain { text: value }) => append_within(text, value.bytes()),
+            Some(Setting::Plain { text: value }) => append_within(text, value.bytes(), room),
         }
     }
 }

@@ -9,4 +9,4 @@ returns c = λ name.
     let before = c.args.before.now in
     let done : c.loop-name.name-iterator ≡ [] = c.in-None.ensures.steps.0 in
     ap (λ m. get m name) (ap (λ es. set_each before c.loop-name.vars (map seen_entry es)) (sym done) ∙ c.loop-name.invariant)
-    ∙ set_entries before c.args.values.entries c.into_iter-name-iterator.ensures.into_iter_gives.5 name
+    ∙ set_entries c.map_law.ensures before c.args.values.entries c.into_iter-name-iterator.ensures.into_iter_gives.5 name

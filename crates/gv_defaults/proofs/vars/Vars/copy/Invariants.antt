@@ -1,6 +1,5 @@
 use Rattle.std.proofs.Common.{◌≡◌, map}
-use Rattle.gv_base.specs.ByteMap.{seen_entry}
-use Rattle.gv_base.proofs.ByteMaps.{put_each}
+use Rattle.gv_base.specs.ByteMap.{put_each, seen_entry}
 use Rattle.gv_defaults.proofs.vars.Vars.copy.Given as goal
 
 abbrev pub invariant-loop-name : goal.invariant-loop-name

@@ -1,16 +1,15 @@
 use Rattle.std.proofs.Common.{ap, sym, ◌∙◌}
 use Rattle.std.specs.FinMap.{get}
-use Rattle.gv_base.proofs.ByteMaps.{get-map_of}
 use Rattle.gv_defaults.proofs.vars.Vars.get.Goals as goal
 
 pub returns-in-Some : goal.returns-in-Some
 returns-in-Some c =
     c.in-Some.ensures.value
-    ∙ sym (get-map_of c.self.inside.map.entries c.args.name.now)
+    ∙ sym (c.map_law.ensures.get c.self.inside.map.entries c.args.name.now)
     ∙ ap (λ m. get m c.args.name.now) c.self.view_is
 
 pub returns-in-None : goal.returns-in-None
 returns-in-None c =
     c.in-None.ensures.value
-    ∙ sym (get-map_of c.self.inside.map.entries c.args.name.now)
+    ∙ sym (c.map_law.ensures.get c.self.inside.map.entries c.args.name.now)
     ∙ ap (λ m. get m c.args.name.now) c.self.view_is

@@ -1,6 +1,5 @@
 -- What files make of variables. Before them USE is b, and P is the text "p  q".
-use Rattle.std.specs.Prelude.{◌≡◌, ℕ, true, false, List, [], ◌∷◌, ◌++◌, Option, Some, None, refl, codes, if◌then◌else◌}
-use Rattle.std.specs.List.{list_all}
+use Rattle.std.specs.Prelude.{◌≡◌, ℕ, true, false, List, [], ◌∷◌, Option, Some, None, length, refl, codes, if◌then◌else◌}
 use Rattle.std.specs.Str.{bytes_eq}
 use Rattle.gv_defaults.specs.declared.vars.Setting.{Setting}
 use Rattle.gv_defaults.specs.declared.vars.Setting.TheVariants.{Words, Plain}
@@ -14,15 +13,12 @@ before name =
     if bytes_eq name (codes "USE") then Some (Words (codes "b" ∷ codes "c" ∷ []))
     else (if bytes_eq name (codes "P") then Some (Plain (codes "p  q")) else None)
 
-abbrev feed : List ℕ
-feed = 10 ∷ []
-
 -- A="x y", USE="a ${A}", USE="$USE -b", each on a line, where USE was b
 abbrev use_b : List ℕ → Option Setting
 use_b name = if bytes_eq name (codes "USE") then Some (Words (codes "b" ∷ [])) else None
 
 abbrev three_lines : List ℕ
-three_lines = codes "A=\"x y\"" ++ feed ++ codes "USE=\"a ${A}\"" ++ feed ++ codes "USE=\"$USE -b\"" ++ feed
+three_lines = codes "A=\"x y\"\nUSE=\"a ${A}\"\nUSE=\"$USE -b\"\n"
 
 use_folded : setting_after use_b three_lines (codes "USE") ≡ Some (Words (codes "a" ∷ codes "x" ∷ codes "y" ∷ []))
 unfolding is_incremental incremental_names
@@ -94,11 +90,48 @@ unfolding is_incremental incremental_names
 before_the_fault = refl
 
 -- space, tab, carriage return and line feed
-parts_of_a_text : words_of (Some (Plain (codes "x  y" ++ 9 ∷ 13 ∷ 10 ∷ codes "z "))) ≡ codes "x" ∷ codes "y" ∷ codes "z" ∷ []
+parts_of_a_text : words_of (Some (Plain (codes "x  y\t\r\nz "))) ≡ codes "x" ∷ codes "y" ∷ codes "z" ∷ []
 parts_of_a_text = refl
 
-nine_names : list_all is_incremental incremental_names ≡ true
+use_flags_incremental : is_incremental (codes "USE") ≡ true
 unfolding is_incremental incremental_names
+use_flags_incremental = refl
+
+use_expand_incremental : is_incremental (codes "USE_EXPAND") ≡ true
+unfolding is_incremental incremental_names
+use_expand_incremental = refl
+
+use_expand_hidden_incremental : is_incremental (codes "USE_EXPAND_HIDDEN") ≡ true
+unfolding is_incremental incremental_names
+use_expand_hidden_incremental = refl
+
+config_protect_incremental : is_incremental (codes "CONFIG_PROTECT") ≡ true
+unfolding is_incremental incremental_names
+config_protect_incremental = refl
+
+config_protect_mask_incremental : is_incremental (codes "CONFIG_PROTECT_MASK") ≡ true
+unfolding is_incremental incremental_names
+config_protect_mask_incremental = refl
+
+iuse_implicit_incremental : is_incremental (codes "IUSE_IMPLICIT") ≡ true
+unfolding is_incremental incremental_names
+iuse_implicit_incremental = refl
+
+use_expand_implicit_incremental : is_incremental (codes "USE_EXPAND_IMPLICIT") ≡ true
+unfolding is_incremental incremental_names
+use_expand_implicit_incremental = refl
+
+use_expand_unprefixed_incremental : is_incremental (codes "USE_EXPAND_UNPREFIXED") ≡ true
+unfolding is_incremental incremental_names
+use_expand_unprefixed_incremental = refl
+
+env_unset_incremental : is_incremental (codes "ENV_UNSET") ≡ true
+unfolding is_incremental incremental_names
+env_unset_incremental = refl
+
+-- and no tenth: that the nine are all is the law of the names
+nine_names : length incremental_names ≡ 9
+unfolding incremental_names
 nine_names = refl
 
 other_name : is_incremental (codes "ACCEPT_KEYWORDS") ≡ false

@@ -1,5 +1,5 @@
 -- Files of assignments: what counts, and the line of the fault.
-use Rattle.std.specs.Prelude.{◌≡◌, ℕ, List, [], ◌∷◌, ◌++◌, Some, None, refl, codes}
+use Rattle.std.specs.Prelude.{◌≡◌, ℕ, List, [], ◌∷◌, Some, None, refl, codes}
 use Rattle.gv_defaults.specs.Assignments.{Assignment, File, file_of}
 
 abbrev good : List Assignment → File
@@ -11,14 +11,11 @@ until line assignments = record { assignments = assignments; bad = Some line }
 abbrev sets : List ℕ → List ℕ → Assignment
 sets name text = record { name = name; text = text }
 
-abbrev feed : List ℕ
-feed = 10 ∷ []
-
 nothing : file_of [] ≡ good []
 nothing = refl
 
 -- spaces, tabs, carriage returns, line feeds and a comment
-gaps : file_of (32 ∷ 9 ∷ 13 ∷ 10 ∷ codes "# A=1 \"" ++ feed) ≡ good []
+gaps : file_of (codes " \t\r\n# A=1 \"\n") ≡ good []
 gaps = refl
 
 comment_to_the_end : file_of (codes "#A=1") ≡ good []
@@ -40,11 +37,11 @@ equals_in_a_value = refl
 with_export : file_of (codes "export A=1") ≡ until 1 []
 with_export = refl
 
-plus_equals : file_of (codes "A=1" ++ feed ++ codes "A+=1") ≡ until 2 (sets (codes "A") (codes "1") ∷ [])
+plus_equals : file_of (codes "A=1\nA+=1") ≡ until 2 (sets (codes "A") (codes "1") ∷ [])
 plus_equals = refl
 
 -- a backslash before a line feed, between assignments
-backslash_between : file_of (codes "A=1 \\" ++ feed ++ codes "B=2") ≡ until 1 (sets (codes "A") (codes "1") ∷ [])
+backslash_between : file_of (codes "A=1 \\\nB=2") ≡ until 1 (sets (codes "A") (codes "1") ∷ [])
 backslash_between = refl
 
 digit_first : file_of (codes "1A=x") ≡ until 1 []
@@ -63,10 +60,10 @@ open_quote : file_of (codes "B=\"x") ≡ until 1 []
 open_quote = refl
 
 -- the line on which the assignment begins, and not that of the end
-open_quote_over_lines : file_of (feed ++ codes "A='x" ++ feed ++ codes "y" ++ feed) ≡ until 2 []
+open_quote_over_lines : file_of (codes "\nA='x\ny\n") ≡ until 2 []
 open_quote_over_lines = refl
 
 -- line feeds in comments, in quotes and behind a backslash count, and nothing behind the fault does
-lines_count : file_of (codes "# c" ++ feed ++ codes "A=\"x" ++ feed ++ codes "\"y\\" ++ feed ++ codes "z" ++ feed ++ codes "! B=1" ++ feed ++ codes "C=2")
-    ≡ until 5 (sets (codes "A") (codes "\"x" ++ feed ++ codes "\"y\\" ++ feed ++ codes "z") ∷ [])
+lines_count : file_of (codes "# c\nA=\"x\n\"y\\\nz\n! B=1\nC=2")
+    ≡ until 5 (sets (codes "A") (codes "\"x\n\"y\\\nz") ∷ [])
 lines_count = refl

@@ -1,5 +1,5 @@
 -- Values of make.defaults: where they end, and what they stand for. A is 1 and AB is 2.
-use Rattle.std.specs.Prelude.{◌≡◌, ℕ, List, [], ◌∷◌, ◌++◌, Some, None, refl, codes, if◌then◌else◌}
+use Rattle.std.specs.Prelude.{◌≡◌, ℕ, List, [], Some, None, refl, codes, if◌then◌else◌}
 use Rattle.std.specs.Str.{bytes_eq}
 use Rattle.gv_defaults.specs.Quotes.{value_len}
 use Rattle.gv_defaults.specs.Meaning.{meaning_of}
@@ -8,13 +8,13 @@ use Rattle.gv_defaults.specs.Meaning.{meaning_of}
 before_space : value_len (codes "ab c") ≡ Some 2
 before_space = refl
 
-before_tab : value_len (97 ∷ 9 ∷ []) ≡ Some 1
+before_tab : value_len (codes "a\t") ≡ Some 1
 before_tab = refl
 
-before_return : value_len (97 ∷ 13 ∷ 10 ∷ []) ≡ Some 1
+before_return : value_len (codes "a\r\n") ≡ Some 1
 before_return = refl
 
-before_feed : value_len (97 ∷ 10 ∷ []) ≡ Some 1
+before_feed : value_len (codes "a\n") ≡ Some 1
 before_feed = refl
 
 at_end : value_len (codes "ab#c") ≡ Some 4
@@ -69,11 +69,11 @@ other_quotes : meaning_of vars (codes "'a\"b'\"c'd\"") ≡ codes "a\"bc'd"
 other_quotes = refl
 
 -- "\"\\\$\x", and a backslash before a line feed
-escapes_in_double : meaning_of vars (codes "\"\\\"\\\\\\$\\x\\" ++ 10 ∷ codes "\"") ≡ codes "\"\\$\\x"
+escapes_in_double : meaning_of vars (codes "\"\\\"\\\\\\$\\x\\\n\"") ≡ codes "\"\\$\\x"
 escapes_in_double = refl
 
 -- \"\'\\\$\ \x, and a backslash before a line feed
-escapes_in_bare : meaning_of vars (codes "\\\"\\'\\\\\\$\\ \\x\\" ++ 10 ∷ codes "y") ≡ codes "\"'\\$ xy"
+escapes_in_bare : meaning_of vars (codes "\\\"\\'\\\\\\$\\ \\x\\\ny") ≡ codes "\"'\\$ xy"
 escapes_in_bare = refl
 
 -- 'a\$A\'
@@ -83,7 +83,7 @@ escapes_in_single = refl
 backslash_at_end_is_itself : meaning_of vars (codes "a\\") ≡ codes "a\\"
 backslash_at_end_is_itself = refl
 
-feeds_in_quotes : meaning_of vars (34 ∷ 97 ∷ 10 ∷ 34 ∷ 39 ∷ 10 ∷ 98 ∷ 39 ∷ []) ≡ 97 ∷ 10 ∷ 10 ∷ 98 ∷ []
+feeds_in_quotes : meaning_of vars (codes "\"a\n\"'\nb'") ≡ codes "a\n\nb"
 feeds_in_quotes = refl
 
 -- x$A-"$A"${A}
