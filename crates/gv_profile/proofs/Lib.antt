@@ -1,0 +1,10 @@
+mod Examples
+pub mod AppliedLaw
+pub mod DescKeys
+pub mod FlagLaw
+pub mod MaskLaw
+pub mod MaskLemmas
+pub mod PathLemmas
+pub mod SliceRests
+pub mod StackLaw
+pub mod Walks

@@ -1,0 +1,295 @@
+//! The rules on flags of a profile directory. Reading costs O(bytes), and a copy of the atom for each flag of a line.
+ghost use Rattle.std.specs.Prelude.{◌≡◌, ◌++◌, Some, None, false, true, map, IfOk, OnOk};
+ghost use Rattle.std.specs.List.{list_all};
+ghost use Rattle.gv_profile.specs.Lines.{file_lines};
+ghost use Rattle.gv_profile.specs.Rules.{is_off, flag_of, is_flag_word, are_flag_words, rule_of, flag_rules, atom_rules, package_rules, line_rules, rules_among, rules_in, masks, forces, stable_rules, dir_rules};
+
+use crate::eapi::has_stable;
+use crate::lines::line_words;
+use crate::mask_lines::file_atom;
+use crate::{DirFiles, NamedFiles};
+use gv_atom::Atom;
+use gv_base::{Cut, NoMemory, Text, next_piece};
+use gv_facts::{Effect, Rule, Rules};
+use gv_version::is_flag;
+use std::alloc::Global;
+
+/// What the rules of a file do, whether they are for stable packages alone, and whether each line begins with an atom.
+#[derive(Clone, Copy)]
+pub(crate) struct RuleFile {
+    effect: Effect,
+    stable: bool,
+    by_package: bool,
+}
+
+fn is_off(word: &[u8]) -> bool
+    ensures { result ≡ is_off word.now }
+{
+    match word {
+        [] => false,
+        [b, ..] => *b == b'-',
+    }
+}
+
+fn flag_of(word: &[u8]) -> &[u8]
+    ensures { result.now ≡ flag_of word.now }
+{
+    match word {
+        [b'-', flag @ ..] => flag,
+        _ => word,
+    }
+}
+
+/// Whether a word is a flag, or a hyphen and a flag.
+pub(crate) fn is_flag_word(word: &[u8]) -> bool
+    ensures { result ≡ is_flag_word word.now }
+{
+    is_flag(flag_of(word))
+}
+
+fn all_flag_words(words: &[Text]) -> bool
+    ensures { result ≡ list_all is_flag_word words.now }
+{
+    for word in words {
+        if !is_flag_word(word.bytes()) {
+            return false;
+        }
+    }
+    true
+}
+
+/// Whether there are one or more words, each a flag or a hyphen and a flag.
+pub(crate) fn are_flag_words(words: &[Text]) -> bool
+    ensures { result ≡ are_flag_words words.now }
+{
+    match words {
+        [] => false,
+        _ => all_flag_words(words),
+    }
+}
+
+fn copy_atom(alloc: Global, atom: &Option<Atom>) -> Result<Option<Atom>, NoMemory>
+    ensures { IfOk result (λ copy. copy ≡ atom.now) }
+{
+    match atom {
+        Some(atom) => Ok(Some(atom.copy(alloc)?)),
+        None => Ok(None),
+    }
+}
+
+fn rule_of(
+    alloc: Global,
+    file: RuleFile,
+    atom: &Option<Atom>,
+    word: &[u8],
+) -> Result<Rule, NoMemory>
+    ensures { IfOk result (λ rule. rule ≡ rule_of file atom.now word.now) }
+{
+    let atom = copy_atom(alloc, atom)?;
+    let flag = Text::of(alloc, flag_of(word))?;
+    Ok(Rule {
+        effect: file.effect,
+        stable: file.stable,
+        atom,
+        flag,
+        on: !is_off(word),
+    })
+}
+
+// Adds a rule for each word.
+fn add_words(
+    alloc: Global,
+    rules: &mut Rules,
+    file: RuleFile,
+    atom: &Option<Atom>,
+    words: &[Text],
+) -> Result<(), NoMemory>
+    ensures { OnOk result (rules.new ≡ rules.old ++ map (rule_of file atom.now) words.now) }
+{
+    for word in words {
+        rules.add(rule_of(alloc, file, atom, word.bytes())?)?;
+    }
+    Ok(())
+}
+
+fn add_flag_line(
+    alloc: Global,
+    rules: &mut Rules,
+    file: RuleFile,
+    words: &[Text],
+) -> Result<(), NoMemory>
+    ensures { OnOk result (rules.new ≡ rules.old ++ flag_rules file words.now) }
+{
+    match words {
+        [word] => {
+            if is_flag_word(word.bytes()) {
+                rules.add(rule_of(alloc, file, &None, word.bytes())?)?;
+            }
+            Ok(())
+        }
+        _ => Ok(()),
+    }
+}
+
+fn add_atom_words(
+    alloc: Global,
+    rules: &mut Rules,
+    file: RuleFile,
+    words: &[Text],
+    atom: Option<Atom>,
+) -> Result<(), NoMemory>
+    ensures { OnOk result (rules.new ≡ rules.old ++ atom_rules file words.now atom) }
+{
+    match atom {
+        Some(atom) => {
+            if !are_flag_words(words) {
+                return Ok(());
+            }
+            add_words(alloc, rules, file, &Some(atom), words)
+        }
+        None => Ok(()),
+    }
+}
+
+#[tactic(auto, using(crate::proofs::SliceRests::rest_of))]
+fn add_package_line(
+    alloc: Global,
+    rules: &mut Rules,
+    file: RuleFile,
+    words: &[Text],
+) -> Result<(), NoMemory>
+    ensures { OnOk result (rules.new ≡ rules.old ++ package_rules file words.now) }
+{
+    match words {
+        [] => Ok(()),
+        [text, words @ ..] => {
+            let atom = file_atom(alloc, text.bytes())?;
+            add_atom_words(alloc, rules, file, words, atom)
+        }
+    }
+}
+
+fn add_line(
+    alloc: Global,
+    rules: &mut Rules,
+    file: RuleFile,
+    words: &[Text],
+) -> Result<(), NoMemory>
+    ensures { OnOk result (rules.new ≡ rules.old ++ line_rules file words.now) }
+{
+    if file.by_package {
+        add_package_line(alloc, rules, file, words)
+    } else {
+        add_flag_line(alloc, rules, file, words)
+    }
+}
+
+fn add_bytes(alloc: Global, rules: &mut Rules, file: RuleFile, bytes: &[u8]) -> Result<(), NoMemory>
+    ensures { OnOk result (rules.new ≡ rules.old ++ rules_among file (file_lines bytes.now)) }
+{
+    let mut rest = Some(bytes);
+    while let Some(line) = next_piece(&mut rest, Cut::Lines) {
+        let words = line_words(alloc, line)?;
+        add_line(alloc, rules, file, words.items())?;
+    }
+    Ok(())
+}
+
+fn add_files(
+    alloc: Global,
+    rules: &mut Rules,
+    file: RuleFile,
+    files: &NamedFiles,
+) -> Result<(), NoMemory>
+    ensures { OnOk result (rules.new ≡ rules.old ++ rules_in file files.now) }
+{
+    for named in files.items() {
+        add_bytes(alloc, rules, file, named.bytes.bytes())?;
+    }
+    Ok(())
+}
+
+// The rules that mask, and then those that force.
+fn add_both(
+    alloc: Global,
+    rules: &mut Rules,
+    stable: bool,
+    by_package: bool,
+    masked: &NamedFiles,
+    forced: &NamedFiles,
+) -> Result<(), NoMemory>
+    ensures { OnOk result (rules.new ≡ rules.old ++ (rules_in (masks stable by_package) masked.now ++ rules_in (forces stable by_package) forced.now)) }
+{
+    let masking = RuleFile {
+        effect: Effect::Mask,
+        stable,
+        by_package,
+    };
+    let forcing = RuleFile {
+        effect: Effect::Force,
+        stable,
+        by_package,
+    };
+    add_files(alloc, rules, masking, masked)?;
+    add_files(alloc, rules, forcing, forced)
+}
+
+// Those of stable files, where they count.
+fn add_stable(
+    alloc: Global,
+    rules: &mut Rules,
+    files: &DirFiles,
+    by_package: bool,
+    masked: &NamedFiles,
+    forced: &NamedFiles,
+) -> Result<(), NoMemory>
+    ensures { OnOk result (rules.new ≡ rules.old ++ stable_rules files.now (rules_in (masks true by_package) masked.now ++ rules_in (forces true by_package) forced.now)) }
+{
+    if has_stable(alloc, files)? {
+        add_both(alloc, rules, true, by_package, masked, forced)
+    } else {
+        Ok(())
+    }
+}
+
+/// Adds the rules of a directory: those of plain files, stable files, package files and stable package files.
+pub(crate) fn add_dir_rules(
+    alloc: Global,
+    rules: &mut Rules,
+    files: &DirFiles,
+) -> Result<(), NoMemory>
+    ensures { OnOk result (rules.new ≡ rules.old ++ dir_rules files.now) }
+{
+    add_both(
+        alloc,
+        rules,
+        false,
+        false,
+        &files.use_mask,
+        &files.use_force,
+    )?;
+    add_stable(
+        alloc,
+        rules,
+        files,
+        false,
+        &files.use_stable_mask,
+        &files.use_stable_force,
+    )?;
+    add_both(
+        alloc,
+        rules,
+        false,
+        true,
+        &files.package_use_mask,
+        &files.package_use_force,
+    )?;
+    add_stable(
+        alloc,
+        rules,
+        files,
+        true,
+        &files.package_use_stable_mask,
+        &files.package_use_stable_force,
+    )
+}

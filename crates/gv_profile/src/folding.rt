@@ -1,0 +1,179 @@
+//! What a stack comes to, folded directory by directory.
+//!
+//! A directory costs O(the bytes of its files and of the variables so far) each time that it is reached.
+ghost use Rattle.std.specs.Prelude.{◌≡◌, ◌++◌, map, IfOk, OnOk};
+ghost use Rattle.std.specs.FinMap as finite;
+ghost use Rattle.std.specs.Option.{option_copied};
+ghost use Rattle.gv_defaults.specs.Settings.{words_of};
+ghost use Rattle.gv_profile.specs.Folds.{vars_with, with_files, with_masks, with_dir, start, value_list, profile_with};
+ghost use Rattle.gv_profile.specs.Names.{iuse_implicit, use_expand, use_expand_implicit, use_expand_unprefixed, use_expand_values};
+
+use crate::flag_rules::add_dir_rules;
+use crate::mask_lines::{MaskLines, add_mask_lines, masks_of};
+use crate::{DescLine, DirFiles, Dirs, NamedFiles};
+use gv_base::{NoMemory, Text, Texts};
+use gv_defaults::{Vars, read_defaults};
+use gv_facts::{Profile, Rules, ValueList, ValueLists};
+use std::alloc::Global;
+
+/// What the directories so far come to.
+#[derive(Drop)]
+pub(crate) struct Folded {
+    vars: Vars,
+    lines: MaskLines,
+    rules: Rules,
+}
+
+/// The lines of mask files more.
+pub(crate) fn with_masks(
+    alloc: Global,
+    folded: Folded,
+    files: &NamedFiles,
+) -> Result<Folded, NoMemory>
+    ensures { IfOk result (λ after. after ≡ with_masks folded files.now) }
+{
+    let Folded {
+        vars,
+        mut lines,
+        rules,
+    } = folded;
+    add_mask_lines(alloc, &mut lines, files)?;
+    Ok(Folded { vars, lines, rules })
+}
+
+/// Before the first directory there are the repository's own masks.
+pub(crate) fn start(alloc: Global, first: &NamedFiles) -> Result<Folded, NoMemory>
+    ensures { IfOk result (λ folded. folded ≡ start first.now) }
+{
+    let nothing = Folded {
+        vars: Vars::new(alloc),
+        lines: MaskLines::new(alloc),
+        rules: Rules::new(alloc),
+    };
+    with_masks(alloc, nothing, first)
+}
+
+fn vars_with(alloc: Global, vars: Vars, defaults: &Option<Text>) -> Result<Vars, NoMemory>
+    ensures { IfOk result (λ after. after ≡ vars_with vars defaults.now) }
+{
+    match defaults {
+        Some(bytes) => {
+            let read = read_defaults(alloc, bytes.bytes(), &vars)?;
+            Ok(read.vars)
+        }
+        None => Ok(vars),
+    }
+}
+
+fn with_files(alloc: Global, folded: Folded, files: Option<&DirFiles>) -> Result<Folded, NoMemory>
+    ensures { IfOk result (λ after. after ≡ with_files folded (option_copied files.entry)) }
+{
+    match files {
+        Some(files) => {
+            let Folded {
+                vars,
+                mut lines,
+                mut rules,
+            } = folded;
+            let vars = vars_with(alloc, vars, &files.defaults)?;
+            add_mask_lines(alloc, &mut lines, &files.package_mask)?;
+            add_dir_rules(alloc, &mut rules, files)?;
+            Ok(Folded { vars, lines, rules })
+        }
+        None => Ok(folded),
+    }
+}
+
+/// One directory more.
+pub(crate) fn with_dir(
+    alloc: Global,
+    dirs: &Dirs,
+    folded: Folded,
+    dir: &Text,
+) -> Result<Folded, NoMemory>
+    ensures { IfOk result (λ after. after ≡ with_dir (finite.get dirs.now) folded dir.now) }
+{
+    with_files(alloc, folded, dirs.get(dir.bytes()))
+}
+
+#[tactic(auto, unfolding(crate::specs::Names::iuse_implicit))]
+fn iuse_implicit(alloc: Global, vars: &Vars) -> Result<Texts, NoMemory>
+    ensures { IfOk result (λ words. words ≡ words_of (finite.get vars.now iuse_implicit)) }
+{
+    vars.words(alloc, b"IUSE_IMPLICIT")
+}
+
+#[tactic(auto, unfolding(crate::specs::Names::use_expand))]
+fn use_expand(alloc: Global, vars: &Vars) -> Result<Texts, NoMemory>
+    ensures { IfOk result (λ words. words ≡ words_of (finite.get vars.now use_expand)) }
+{
+    vars.words(alloc, b"USE_EXPAND")
+}
+
+#[tactic(auto, unfolding(crate::specs::Names::use_expand_implicit))]
+fn use_expand_implicit(alloc: Global, vars: &Vars) -> Result<Texts, NoMemory>
+    ensures { IfOk result (λ words. words ≡ words_of (finite.get vars.now use_expand_implicit)) }
+{
+    vars.words(alloc, b"USE_EXPAND_IMPLICIT")
+}
+
+#[tactic(auto, unfolding(crate::specs::Names::use_expand_unprefixed))]
+fn use_expand_unprefixed(alloc: Global, vars: &Vars) -> Result<Texts, NoMemory>
+    ensures { IfOk result (λ words. words ≡ words_of (finite.get vars.now use_expand_unprefixed)) }
+{
+    vars.words(alloc, b"USE_EXPAND_UNPREFIXED")
+}
+
+#[tactic(auto, unfolding(crate::specs::Names::use_expand_values))]
+fn values_name(alloc: Global, name: &Text) -> Result<Text, NoMemory>
+    ensures { IfOk result (λ text. text ≡ use_expand_values name.now) }
+{
+    let mut text = Text::of(alloc, b"USE_EXPAND_VALUES_")?;
+    text.append(name.bytes())?;
+    Ok(text)
+}
+
+fn value_list(alloc: Global, vars: &Vars, name: &Text) -> Result<ValueList, NoMemory>
+    ensures { IfOk result (λ list. list ≡ value_list vars.now name.now) }
+{
+    let variable = values_name(alloc, name)?;
+    let words = vars.words(alloc, variable.bytes())?;
+    let name = name.copy(alloc)?;
+    Ok(ValueList { name, words })
+}
+
+fn value_lists(alloc: Global, vars: &Vars, names: &Texts) -> Result<ValueLists, NoMemory>
+    ensures { IfOk result (λ lists. lists ≡ map (value_list vars.now) names.now) }
+{
+    let mut lists = ValueLists::new(alloc);
+    for name in names.items() {
+        lists.add(value_list(alloc, vars, name)?)?;
+    }
+    Ok(lists)
+}
+
+/// The profile of a line whose whole stack was folded.
+pub(crate) fn profile_with(
+    alloc: Global,
+    line: &DescLine,
+    folded: Folded,
+) -> Result<Profile, NoMemory>
+    ensures { IfOk result (λ profile. profile ≡ profile_with line.now folded) }
+{
+    let Folded { vars, lines, rules } = folded;
+    let expand_implicit = use_expand_implicit(alloc, &vars)?;
+    let values = value_lists(alloc, &vars, &expand_implicit)?;
+    Ok(Profile {
+        line: line.number,
+        arch: line.arch.copy(alloc)?,
+        path: line.path.copy(alloc)?,
+        status: line.status,
+        iuse_implicit: iuse_implicit(alloc, &vars)?,
+        expand: use_expand(alloc, &vars)?,
+        expand_implicit,
+        unprefixed: use_expand_unprefixed(alloc, &vars)?,
+        values,
+        masks: masks_of(alloc, lines)?,
+        rules,
+    })
+}

@@ -1,0 +1,47 @@
+//! Profiles (PMS chapters 4 and 5): the lines of `profiles.desc`, the stacks of directories, and what a stack comes to.
+//!
+//! - `lines`, `paths`: the words of a line; paths below a folder and relative to one.
+//! - `notes`: bad lines, each told with its place.
+//! - `desc`, `parent_files`, `eapi`: the lists of profiles and of parents, and the EAPI of a directory.
+//! - `files`, `dirs`: the files of a directory as they were read, and the directories by path.
+//! - `mask_lines`, `flag_rules`, `folding`: what the files of one directory add to what a stack comes to.
+//! - `frames`, `walking`, `profiles`: the walk of a stack, folded while it goes, without recursion.
+//! - `noting`: the bad lines of a directory.
+//! - `laws`: what stacks, masks and rules on flags come to, in a maintainer's words.
+//!
+//! The crate stands on `gv_atom`, `gv_defaults` and `gv_facts`. The layer above reads the files, hands them over as `Dirs`
+//! and takes the profile of each line, or the first fault of its walk, by `fold`.
+#![tactic(auto)]
+
+mod desc;
+mod dirs;
+mod eapi;
+mod faults;
+mod files;
+mod flag_rules;
+mod folding;
+mod frames;
+mod laws;
+mod lines;
+mod mask_lines;
+mod notes;
+mod noting;
+mod parent_files;
+mod paths;
+mod profiles;
+#[cfg(test)]
+mod tests;
+mod walking;
+
+pub use desc::{DescLine, DescLines, DescRead, read_desc};
+pub use dirs::Dirs;
+pub use faults::ProfileFault;
+pub use files::{DirFiles, NamedFile, NamedFiles};
+pub use laws::{flag_law, mask_law, stack_law};
+pub use lines::line_words;
+pub use notes::{PlaceNote, PlaceNotes};
+pub use noting::{dir_notes, mask_notes};
+pub use parent_files::{ParentLine, ParentLines, parents};
+pub use paths::within;
+pub use profiles::{fold, line_dir};
+pub use walking::parents_of;
