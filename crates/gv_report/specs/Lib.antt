@@ -1,0 +1,16 @@
+pub mod Emitted
+pub mod JsonValue
+pub mod Keywords
+pub mod Marks
+pub mod Ordered
+pub mod OrderTotal
+pub mod Printable
+pub mod ReportJson
+pub mod ReportOrder
+pub mod ReportText
+pub mod Rows
+pub mod Selected
+pub mod Sorting
+pub mod Tells
+pub mod Told
+pub mod Values

@@ -1,0 +1,39 @@
+//! Reports: their order, the options that select them, their lines and their JSON.
+//!
+//! Stands on the texts of `gv_base`, the versions of `gv_version`, the classes and levels of `gv_facts`, and on
+//! `serde_json`. The layers above make reports, put them in order by `ordered`, and write them by an `Emitter`.
+//!
+//! - `keyword`: the kinds of reports.
+//! - `report`: a report, what it speaks of, and lists of them. Contracts see a report as a value; `telling` says so.
+//! - `order`: the order of reports. A comparison costs O(bytes up to the first part that differs) and takes no memory.
+//! - `ordering`: reports in order, equal ones once. O(n log n) comparisons of n reports.
+//! - `options`, `selecting`: which reports are selected.
+//! - `line`, `json`: the two texts of a report. O(bytes). `printable`: which reports may be written as JSON.
+//! - `emitter`: the text of the reports that a stored test takes.
+//! - `caller`: a text as the layers above make it.
+//! - `laws`: what the definitions of the order and of lines come to.
+#![tactic(auto)]
+
+mod caller;
+mod emitter;
+mod json;
+mod keyword;
+mod laws;
+mod line;
+mod options;
+mod order;
+mod ordering;
+mod printable;
+mod report;
+mod selecting;
+mod telling;
+#[cfg(test)]
+mod tests;
+
+pub use emitter::Emitter;
+pub use keyword::{Keyword, Keywords};
+pub use laws::{line_law, object_law, order_law, ordered_law, selected_law};
+pub use options::Options;
+pub use ordering::ordered;
+pub use report::{ContextName, Report, Reports, Subject};
+pub use selecting::selected;
