@@ -10,6 +10,29 @@ use gv_base::NoMemory;
 use gv_logic::{Clause, Clauses, Gates, Lit, Lits, Op};
 use std::alloc::Global;
 
+/// The clauses of gates over the places as variables, gate by gate. For an And gate g over l1 to
+/// lm: for each i the clause (not g, li), then (g, not l1, .., not lm). For an Or gate: for each i
+/// the clause (g, not li), then (not g, l1, .., lm). Last the clause (root). The literals of a
+/// clause stand in this order.
+pub fn encode(alloc: Global, gates: &Gates) -> Result<Clauses, NoMemory>
+    ensures { IfOk result (λ clauses. clauses ≡ formula_of gates.now) }
+{
+    let inputs = gates.inputs();
+    let mut clauses = Clauses::new(alloc, inputs + gates.count());
+    for n in 0..gates.count() {
+        add_gate(
+            alloc,
+            &mut clauses,
+            inputs + n,
+            gates.op(n),
+            gates.operands(n),
+        )?;
+    }
+    let root = Clause::of(alloc, &[gates.root()])?;
+    clauses.add(root)?;
+    Ok(clauses)
+}
+
 fn opposites(alloc: Global, lits: &[Lit]) -> Result<Lits, NoMemory>
     ensures { IfOk result (λ list. list ≡ map opposite lits.now) }
 {
@@ -110,27 +133,4 @@ fn add_gate(
         Op::And => add_and(alloc, clauses, place, operands),
         Op::Or => add_or(alloc, clauses, place, operands),
     }
-}
-
-/// The clauses of gates over the places as variables, gate by gate. For an And gate g over l1 to
-/// lm: for each i the clause (not g, li), then (g, not l1, .., not lm). For an Or gate: for each i
-/// the clause (g, not li), then (not g, l1, .., lm). Last the clause (root). The literals of a
-/// clause stand in this order.
-pub fn encode(alloc: Global, gates: &Gates) -> Result<Clauses, NoMemory>
-    ensures { IfOk result (λ clauses. clauses ≡ formula_of gates.now) }
-{
-    let inputs = gates.inputs();
-    let mut clauses = Clauses::new(alloc, inputs + gates.count());
-    for n in 0..gates.count() {
-        add_gate(
-            alloc,
-            &mut clauses,
-            inputs + n,
-            gates.op(n),
-            gates.operands(n),
-        )?;
-    }
-    let root = Clause::of(alloc, &[gates.root()])?;
-    clauses.add(root)?;
-    Ok(clauses)
 }

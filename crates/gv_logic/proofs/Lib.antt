@@ -1,5 +1,6 @@
 pub mod Cancel
 pub mod Drafts
+mod Examples
 pub mod GateBytes
 pub mod ManyGates
 pub mod Steps

@@ -2,6 +2,7 @@
 use Rattle.std.proofs.Common.{◌≡◌, ℕ, ◌+◌, ◌*◌, ◌<◌, ◌≤◌, ◌^◌, List, [], ◌∷◌, ◌++◌, length, refl, sym, subst, ◌∙◌, ap, append-nil, length-append, arith}
 use Rattle.gv_logic.specs.Circuits.{Gate, Draft, Circuit, AreEarlier, operand_count, IsDraft, IsCircuit}
 use Rattle.gv_logic.specs.Bytes.{number_bytes, gates_bytes, circuit_bytes}
+use Rattle.gv_logic.specs.Laws.{CircuitLaw}
 use Rattle.gv_logic.proofs.Cancel.{number_long, number_same}
 use Rattle.gv_logic.proofs.ManyGates.{Left, left, small}
 
@@ -68,3 +69,11 @@ has_bytes bytes r1 r2 r3 last n m root d a b i c f h z =
 pub none_at : (n m : ℕ) (tail : List ℕ) (g : Circuit) → IsCircuit g → g.inputs ≡ n → length g.gates ≡ m → gates_bytes g.gates ++ number_bytes g.root ≡ tail
     → ((gs : List Gate) (rest : List ℕ) → length gs ≡ m → AreEarlier n gs → operand_count gs ≤ 2 ^ 30 → tail ≡ gates_bytes gs ++ rest → ⊥) → ⊥
 none_at n m tail g w i c t none = none g.gates (number_bytes g.root) c (subst (λ k. AreEarlier k g.gates) i w.earlier) w.operands (sym t)
+
+-- bytes are those of one circuit at most
+pub circuit_same : CircuitLaw
+circuit_same g h w v e =
+    let d : Draft = record { inputs = h.inputs; gates = h.gates } in
+    let drafted : IsDraft d = record { earlier = v.earlier; places = v.places; operands = v.operands } in
+    is_read (circuit_bytes h) _ h.inputs (omega (arith, v.places)) refl g w e _ (length h.gates) (omega (arith, v.places)) refl
+    d _ drafted refl refl refl h.root [] (omega (arith, v.named, v.places)) (sym (append-nil (number_bytes h.root)))

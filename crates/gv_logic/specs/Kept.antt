@@ -29,6 +29,11 @@ Clashes set cs = IsOpen set cs → ⊥
 abbrev pub IsWithin : List ℕ → List ℕ → Type 0
 IsWithin xs ys = AllByRecursion (λ i. Has i ys) xs
 
+-- none of the sets contains an earlier one
+abbrev pub AreApart : List (List ℕ) → Type 0
+AreApart [] = Unit {0}
+AreApart (s ∷ ss) = AllByRecursion (λ t. IsWithin s t → ⊥) ss × AreApart ss
+
 -- with any one of its members left out it doesn't clash
 abbrev pub IsTight : List ℕ → List (List ℕ) → Type 0
 IsTight set cs = (i : ℕ) → i < length set → IsOpen (remove set i) cs

@@ -4,7 +4,7 @@ pub mod Circuits
 pub mod Encoding
 pub mod Formulas
 pub mod Kept
-pub mod Least
+pub mod Laws
 pub mod Literals
 pub mod Logs
 pub mod Partial

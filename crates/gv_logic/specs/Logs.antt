@@ -28,9 +28,10 @@ abbrev pub unit_of : List Bool → Option (List ℕ) → Option ℕ
 unit_of on None = None
 unit_of on (Some lits) = unit_after on None lits
 
-abbrev pub made_true : List Bool → Option ℕ → Option (List Bool)
-made_true on None = None
-made_true on (Some lit) = Some (slice_set on lit true)
+-- the same with one more literal true
+abbrev pub with_unit : List Bool → Option ℕ → Option (List Bool)
+with_unit on None = None
+with_unit on (Some lit) = Some (slice_set on lit true)
 
 -- Each hint but the last names a clause that has no true literal and one that isn't assigned, which
 -- becomes true. The last names a clause whose literals are all false.
@@ -38,7 +39,7 @@ abbrev pub refuted : List ℕ → List (List ℕ) → List Bool → Bool
 refuted [] names on = false
 refuted (hint ∷ []) names on = last_is_false on (slice_get names hint)
 refuted (hint ∷ next ∷ hints) names on =
-    and_then (made_true on (unit_of on (slice_get names hint))) (refuted (next ∷ hints) names)
+    and_then (with_unit on (unit_of on (slice_get names hint))) (refuted (next ∷ hints) names)
 
 -- whether a step follows, from the number of literals and the clauses that a hint can name
 abbrev pub follows : ℕ → List (List ℕ) → List ℕ → List ℕ → Bool

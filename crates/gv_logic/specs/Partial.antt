@@ -1,11 +1,17 @@
 -- Partial assignments, and clauses that are false, unit or neither under them. A partial assignment
 -- says of each literal, by its number, whether it is true. Past the list no literal is.
-use Rattle.std.specs.Prelude.{◌≡◌, ◌⊎◌, ℕ, nat_eq, Bool, true, false, ◌&&◌, not, if◌then◌else◌, List, [], ◌∷◌, Option, Some, None, slice_index_or}
+use Rattle.std.specs.Prelude.{◌≡◌, ◌⊎◌, ℕ, ◌+◌, nat_eq, Bool, true, false, ◌&&◌, not, if◌then◌else◌, List, [], ◌∷◌, Option, Some, None, slice_index_or}
 use Rattle.std.specs.List.{AllByRecursion}
 use Rattle.gv_logic.specs.Literals.{opposite}
 
 abbrev pub is_true : List Bool → ℕ → Bool
 is_true on lit = slice_index_or on lit false
+
+-- how many literals are true
+abbrev pub trues : List Bool → ℕ
+trues [] = 0
+trues (true ∷ bs) = trues bs + 1
+trues (false ∷ bs) = trues bs
 
 -- the clause is false
 abbrev pub all_false : List Bool → List ℕ → Bool

@@ -1,4 +1,5 @@
--- What a reading of bytes gives: what has these bytes, or none where nothing has them.
+-- What a reading of bytes gives: what has these bytes, or none where nothing has them. `Reads` is what
+-- `read_gates` says; the rest is of the reader alone.
 use Rattle.std.specs.Prelude.{◌≡◌, ℕ, ◌<◌, ◌≤◌, ◌^◌, List, ◌∷◌, ◌++◌, length, Option, Some, None}
 use Rattle.std.specs.List.{AllByRecursion}
 use Rattle.gv_logic.specs.declared.gates.Op.{Op}

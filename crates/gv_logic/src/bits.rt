@@ -30,11 +30,13 @@ impl Bits {
         }
     }
 
-    /// These bits.
+    /// These bits. There is no room for more than a list can have.
     pub fn of(alloc: Global, bits: &[bool]) -> Result<Bits, NoMemory>
-        requires { length bits.now < 2 ^ 32 }
         ensures { IfOk result (λ list. list ≡ bits.now) }
     {
+        if bits.len() > u32::MAX as usize {
+            return Err(NoMemory);
+        }
         Ok(Bits {
             items: bits.to_vec(alloc)?,
         })
@@ -52,6 +54,7 @@ impl Bits {
         Ok(())
     }
 
+    /// The bits in order.
     pub fn items(&self) -> &[bool]
         ensures items { result.now ≡ self.now }
         ensures few { length self.now < 2 ^ 32 }
@@ -59,6 +62,7 @@ impl Bits {
         &self.items
     }
 
+    /// The same bits once more. O(length).
     pub fn copy(&self, alloc: Global) -> Result<Bits, NoMemory>
         ensures { IfOk result (λ bits. bits ≡ self.now) }
     {

@@ -7,6 +7,22 @@ use crate::{Gates, Lit, Op};
 use gv_base::{NoMemory, Text};
 use std::alloc::Global;
 
+/// The canonical bytes: the number of inputs, the number of gates, for each gate one byte (0 And,
+/// 1 Or), the number of operands and the operands, and the root. A number is four bytes, the most
+/// significant first.
+pub fn gate_bytes(alloc: Global, gates: &Gates) -> Result<Text, NoMemory>
+    ensures { IfOk result (λ text. text ≡ circuit_bytes gates.now) }
+{
+    let mut bytes = Text::of(alloc, &[])?;
+    put_number(&mut bytes, gates.inputs())?;
+    put_number(&mut bytes, gates.count())?;
+    for n in 0..gates.count() {
+        put_gate(&mut bytes, gates.op(n), gates.operands(n))?;
+    }
+    put_number(&mut bytes, gates.root().0)?;
+    Ok(bytes)
+}
+
 // Four bytes, the most significant first.
 fn put_number(bytes: &mut Text, n: u32) -> Result<(), NoMemory>
     ensures { OnOk result (bytes.new ≡ bytes.old ++ number_bytes n) }
@@ -34,20 +50,4 @@ fn put_gate(bytes: &mut Text, op: Op, operands: &[Lit]) -> Result<(), NoMemory>
     bytes.append(&[word])?;
     put_number(bytes, operands.len() as u32)?;
     put_numbers(bytes, operands)
-}
-
-/// The canonical bytes: the number of inputs, the number of gates, for each gate one byte (0 And,
-/// 1 Or), the number of operands and the operands, and the root. A number is four bytes, the most
-/// significant first.
-pub fn gate_bytes(alloc: Global, gates: &Gates) -> Result<Text, NoMemory>
-    ensures { IfOk result (λ text. text ≡ circuit_bytes gates.now) }
-{
-    let mut bytes = Text::of(alloc, &[])?;
-    put_number(&mut bytes, gates.inputs())?;
-    put_number(&mut bytes, gates.count())?;
-    for n in 0..gates.count() {
-        put_gate(&mut bytes, gates.op(n), gates.operands(n))?;
-    }
-    put_number(&mut bytes, gates.root().0)?;
-    Ok(bytes)
 }

@@ -34,11 +34,13 @@ impl Clause {
         }
     }
 
-    /// The clause of these literals.
+    /// The clause of these literals. There is no room for more than a clause can have.
     pub fn of(alloc: Global, lits: &[Lit]) -> Result<Clause, NoMemory>
-        requires { length lits.now < 2 ^ 32 }
         ensures { IfOk result (λ clause. clause ≡ lits.now) }
     {
+        if lits.len() > u32::MAX as usize {
+            return Err(NoMemory);
+        }
         Ok(Clause {
             items: lits.to_vec(alloc)?,
         })
@@ -57,6 +59,7 @@ impl Clause {
         Ok(())
     }
 
+    /// The literals in order.
     pub fn items(&self) -> &[Lit]
         ensures items { result.now ≡ self.now }
         ensures few { length self.now < 2 ^ 32 }
@@ -64,6 +67,7 @@ impl Clause {
         &self.items
     }
 
+    /// The same clause once more. O(length).
     pub fn copy(&self, alloc: Global) -> Result<Clause, NoMemory>
         ensures { IfOk result (λ clause. clause ≡ self.now) }
     {
@@ -114,12 +118,14 @@ impl Clauses {
         Ok(())
     }
 
+    /// The number of variables.
     pub fn variables(&self) -> u32
         ensures { result ≡ self.now.variables }
     {
         self.variables
     }
 
+    /// The clauses in order.
     pub fn items(&self) -> &[Clause]
         ensures items { result.now ≡ self.now.clauses }
         ensures formed { IsFormula self.now }
@@ -127,6 +133,7 @@ impl Clauses {
         &self.items
     }
 
+    /// The same clauses once more. O(clauses and literals).
     pub fn copy(&self, alloc: Global) -> Result<Clauses, NoMemory>
         ensures { IfOk result (λ clauses. clauses ≡ self.now) }
     {

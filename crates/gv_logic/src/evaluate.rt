@@ -8,6 +8,28 @@ use crate::{Bits, Gates, Lit, Op};
 use gv_base::NoMemory;
 use std::alloc::Global;
 
+/// The value of each place, in order, where the inputs have these bits.
+pub fn values(alloc: Global, gates: &Gates, bits: &Bits) -> Result<Bits, NoMemory>
+    requires { length bits.now ≡ gates.now.inputs }
+    ensures { IfOk result (λ places. places ≡ values gates.now bits.now) }
+{
+    let mut places = bits.copy(alloc)?;
+    for n in 0..gates.count() {
+        let on = op_value(places.items(), gates.op(n), gates.operands(n));
+        places.add(on)?;
+    }
+    Ok(places)
+}
+
+/// The root's value where the inputs have these bits.
+pub fn value(alloc: Global, gates: &Gates, bits: &Bits) -> Result<bool, NoMemory>
+    requires { length bits.now ≡ gates.now.inputs }
+    ensures { IfOk result (λ on. on ≡ value gates.now bits.now) }
+{
+    let places = values(alloc, gates, bits)?;
+    Ok(lit_value(places.items(), gates.root()))
+}
+
 // Of a literal, from the values of the places.
 fn lit_value(places: &[bool], lit: Lit) -> bool
     ensures { result ≡ lit_true (at places.now) lit }
@@ -48,26 +70,4 @@ fn op_value(places: &[bool], op: Op, operands: &[Lit]) -> bool
         Op::And => all_true(places, operands),
         Op::Or => some_true(places, operands),
     }
-}
-
-/// The value of each place, in order, where the inputs have these bits.
-pub fn values(alloc: Global, gates: &Gates, bits: &Bits) -> Result<Bits, NoMemory>
-    requires { length bits.now ≡ gates.now.inputs }
-    ensures { IfOk result (λ places. places ≡ values gates.now bits.now) }
-{
-    let mut places = bits.copy(alloc)?;
-    for n in 0..gates.count() {
-        let on = op_value(places.items(), gates.op(n), gates.operands(n));
-        places.add(on)?;
-    }
-    Ok(places)
-}
-
-/// The root's value where the inputs have these bits.
-pub fn value(alloc: Global, gates: &Gates, bits: &Bits) -> Result<bool, NoMemory>
-    requires { length bits.now ≡ gates.now.inputs }
-    ensures { IfOk result (λ on. on ≡ value gates.now bits.now) }
-{
-    let places = values(alloc, gates, bits)?;
-    Ok(lit_value(places.items(), gates.root()))
 }

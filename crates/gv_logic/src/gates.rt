@@ -15,23 +15,10 @@ use std::marker::Model;
 /// true, Or of nothing is false.
 #[derive(Clone, Copy, Debug, PartialEq, Eq)]
 pub enum Op {
+    /// All operands are true.
     And,
+    /// Some operand is true.
     Or,
-}
-
-// A gate as it is kept.
-#[derive(Drop)]
-pub(crate) struct Node {
-    pub(crate) op: Op,
-    pub(crate) operands: Lits,
-}
-
-impl Model for Node {
-    ghost use Rattle.gv_logic.specs.Circuits.{Gate};
-
-    ghost Value = { Gate };
-
-    ghost view = { λ n. record { op = n.op; operands = n.operands } };
 }
 
 /// Gates with a root. Places are numbered from 0: the inputs, then the gates in order. The literal
@@ -88,6 +75,7 @@ impl Gates {
         node.operands.items()
     }
 
+    /// The literal whose value is that of the gates.
     pub fn root(&self) -> Lit
         ensures { result ≡ self.now.root }
     {
@@ -162,4 +150,19 @@ impl GateList {
             root,
         }
     }
+}
+
+// A gate as it is kept.
+#[derive(Drop)]
+pub(crate) struct Node {
+    pub(crate) op: Op,
+    pub(crate) operands: Lits,
+}
+
+impl Model for Node {
+    ghost use Rattle.gv_logic.specs.Circuits.{Gate};
+
+    ghost Value = { Gate };
+
+    ghost view = { λ n. record { op = n.op; operands = n.operands } };
 }

@@ -2,6 +2,7 @@
 
 ghost use Rattle.std.specs.Prelude.{◌≡◌, ◌<◌, ◌^◌, List, ℕ, [], ◌∷◌, ◌++◌, length, IfOk, OnOk, OnErr};
 ghost use Rattle.gv_logic.specs.Literals.{opposite};
+ghost use Rattle.gv_logic.specs.Partial.{is_true};
 
 use gv_base::NoMemory;
 use std::alloc::Global;
@@ -33,6 +34,17 @@ impl Lit {
     }
 }
 
+/// Whether the literal is true under a partial assignment, which has a truth value for each literal
+/// by its number. One past its end isn't true.
+pub fn is_on(on: &[bool], lit: Lit) -> bool
+    ensures { result ≡ is_true on.now lit }
+{
+    match on.get(lit.0 as usize) {
+        Some(value) => *value,
+        None => false,
+    }
+}
+
 /// A list of literals, of at most `2^32 - 1`.
 #[derive(Drop)]
 pub struct Lits {
@@ -57,11 +69,13 @@ impl Lits {
         }
     }
 
-    /// These literals.
+    /// These literals. There is no room for more than a list can have.
     pub fn of(alloc: Global, lits: &[Lit]) -> Result<Lits, NoMemory>
-        requires { length lits.now < 2 ^ 32 }
         ensures { IfOk result (λ list. list ≡ lits.now) }
     {
+        if lits.len() > u32::MAX as usize {
+            return Err(NoMemory);
+        }
         Ok(Lits {
             items: lits.to_vec(alloc)?,
         })
@@ -80,6 +94,7 @@ impl Lits {
         Ok(())
     }
 
+    /// The literals in order.
     pub fn items(&self) -> &[Lit]
         ensures items { result.now ≡ self.now }
         ensures few { length self.now < 2 ^ 32 }
@@ -87,6 +102,7 @@ impl Lits {
         &self.items
     }
 
+    /// The same literals once more. O(length).
     pub fn copy(&self, alloc: Global) -> Result<Lits, NoMemory>
         ensures { IfOk result (λ lits. lits ≡ self.now) }
     {

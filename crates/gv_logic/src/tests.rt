@@ -1,7 +1,8 @@
 //! Worked examples, and bytes that are no gates.
 
 use crate::{
-    Bits, Clause, Clauses, GateList, Gates, Lit, Lits, Op, gate_bytes, read_gates, value, values,
+    Bits, Clause, Clauses, GateList, Gates, Lit, Lits, Op, gate_bytes, is_on, read_gates, value,
+    values,
 };
 use gv_base::NoMemory;
 use std::alloc::Global;
@@ -25,6 +26,9 @@ fn lists_keep_what_is_added(rt: HostRuntime) -> Result<(), Fail> {
         Lits::of(alloc, &[Lit(7).opposite()])?.items(),
         [Lit(6)].as_slice()
     );
+    for (lit, value) in [(0, false), (1, true), (2, false)] {
+        assert_eq!(rt; is_on(&[false, true], Lit(lit)), value, "literal {lit}");
+    }
     let mut clause = Clause::of(alloc, &[Lit(1)])?;
     clause.add(Lit(0))?;
     assert_eq!(rt; clause.copy(alloc)?.items(), [Lit(1), Lit(0)].as_slice());

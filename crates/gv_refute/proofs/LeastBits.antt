@@ -2,7 +2,7 @@
 use Rattle.std.proofs.Common.{◌≡◌, ◌↔◌, ◌⊎◌, inl, inr, ℕ, zero, suc, ◌+◌, ◌*◌, ◌/◌, ◌%◌, ◌<◌, Bool, true, false, ◌||◌, List, [], ◌∷◌, ◌++◌, length, get_or, take, refl, sym, subst, ◌∙◌, arith}
 use Rattle.gv_logic.specs.Literals.{lit_true, clause_true, AllTrue}
 use Rattle.gv_logic.specs.Logs.{Step, step_clauses, set_clause, offs, least_set, ProvesLeast}
-use Rattle.gv_logic.specs.Least.{Lesser}
+use Rattle.gv_base.specs.Least.{Lesser}
 use Rattle.gv_refute.specs.Reached.{Reaches}
 use Rattle.gv_refute.proofs.Truths.{has_true}
 

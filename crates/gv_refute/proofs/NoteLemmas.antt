@@ -2,8 +2,8 @@
 use Rattle.std.proofs.Common.{◌≡◌, ◌⊎◌, inl, inr, ℕ, zero, suc, ◌+◌, ◌<◌, ◌≤◌, Bool, true, false, List, [], ◌∷◌, ◌++◌, length, get_or, refl, sym, ap, length-append, arith}
 use Rattle.std.specs.Prelude.{slice_set, replicate}
 use Rattle.std.proofs.Math.ListN.{length-set}
-use Rattle.gv_logic.specs.Partial.{is_true, Has}
-use Rattle.gv_refute.specs.Notes.{trues, IsNoted}
+use Rattle.gv_logic.specs.Partial.{is_true, trues, Has}
+use Rattle.gv_refute.specs.Notes.{IsNoted}
 
 trues_set : (on : List Bool) (i : ℕ) → i < length on → get_or on i false ≡ false → trues (slice_set on i true) ≡ trues on + 1
 trues_set [] i lt e = absurd (omega arith)

@@ -6,7 +6,7 @@ use Rattle.std.proofs.lemmas.List.{length-replicate}
 use Rattle.std.proofs.lemmas.Grind.{common_steps}
 use Rattle.gv_logic.specs.Literals.{opposite}
 use Rattle.gv_logic.specs.Partial.{is_true, all_false, unit_after, Has}
-use Rattle.gv_logic.specs.Logs.{started, last_is_false, unit_of, made_true, and_then, refuted, follows}
+use Rattle.gv_logic.specs.Logs.{started, last_is_false, unit_of, with_unit, and_then, refuted, follows}
 use Rattle.gv_refute.specs.Rules.{IsPlain, all_off, OneLeft, Refutes, Follows}
 
 clash : (b : Bool) → b ≡ true → b ≡ false → ⊥
@@ -99,13 +99,13 @@ to_rules names (h ∷ []) on e = by (slice_get names h) refl e
     by (Some c) s e = (c, s, false_each on c e)
 to_rules names (h ∷ g ∷ hs) on e = by (slice_get names h) refl e (λ l r. to_rules names (g ∷ hs) (slice_set on l true) r)
   where
-    last : (c : List ℕ) → slice_get names h ≡ Some c → (u : Option ℕ) → unit_after on None c ≡ u → and_then (made_true on u) (refuted (g ∷ hs) names) ≡ true
+    last : (c : List ℕ) → slice_get names h ≡ Some c → (u : Option ℕ) → unit_after on None c ≡ u → and_then (with_unit on u) (refuted (g ∷ hs) names) ≡ true
         → ((l : ℕ) → refuted (g ∷ hs) names (slice_set on l true) ≡ true → Refutes (g ∷ hs) names (slice_set on l true))
         → (c : List ℕ) × (lit : ℕ) × (slice_get names h ≡ Some c) × OneLeft on c lit × Refutes (g ∷ hs) names (slice_set on lit true)
     last c s None i e go = cc
     last c s (Some l) i e go = (c, l, s, unit_one on c l i, go l e)
 
-    by : (o : Option (List ℕ)) → slice_get names h ≡ o → and_then (made_true on (unit_of on o)) (refuted (g ∷ hs) names) ≡ true
+    by : (o : Option (List ℕ)) → slice_get names h ≡ o → and_then (with_unit on (unit_of on o)) (refuted (g ∷ hs) names) ≡ true
         → ((l : ℕ) → refuted (g ∷ hs) names (slice_set on l true) ≡ true → Refutes (g ∷ hs) names (slice_set on l true))
         → (c : List ℕ) × (lit : ℕ) × (slice_get names h ≡ Some c) × OneLeft on c lit × Refutes (g ∷ hs) names (slice_set on lit true)
     by None s e go = cc

@@ -4,7 +4,7 @@ use Rattle.std.specs.Prelude.{slice_get, slice_set, replicate}
 use Rattle.std.proofs.lemmas.Grind.{common_steps}
 use Rattle.gv_logic.specs.Literals.{opposite, lit_true, clause_true, AllTrue}
 use Rattle.gv_logic.specs.Partial.{is_true, all_false, unit_after, is_other}
-use Rattle.gv_logic.specs.Logs.{Step, started, last_is_false, unit_of, made_true, and_then, refuted, follows, first_refused, step_clauses, HasList, ProvesNone}
+use Rattle.gv_logic.specs.Logs.{Step, started, last_is_false, unit_of, with_unit, and_then, refuted, follows, first_refused, step_clauses, HasList, ProvesNone}
 
 pub not_not : (b : Bool) → b ≡ not (not b)
 not_not true = refl
@@ -152,12 +152,12 @@ refuted_no v names all (h ∷ []) on a e = by (slice_get names h) refl e
 refuted_no v names all (h ∷ g ∷ hs) on a e = by (slice_get names h) refl e
     (λ l t r. refuted_no v names all (g ∷ hs) (slice_set on l true) (agrees_set v on l a t) r)
   where
-    last : (c : List ℕ) → slice_get names h ≡ Some c → (u : Option ℕ) → unit_after on None c ≡ u → and_then (made_true on u) (refuted (g ∷ hs) names) ≡ true
+    last : (c : List ℕ) → slice_get names h ≡ Some c → (u : Option ℕ) → unit_after on None c ≡ u → and_then (with_unit on u) (refuted (g ∷ hs) names) ≡ true
         → ((l : ℕ) → lit_true v l ≡ true → refuted (g ∷ hs) names (slice_set on l true) ≡ true → ⊥) → ⊥
     last c s None i e go = cc
     last c s (Some l) i e go = go l (true_unit v on a c None l i (or_right _ (get_true v names h c all s))) e
 
-    by : (o : Option (List ℕ)) → slice_get names h ≡ o → and_then (made_true on (unit_of on o)) (refuted (g ∷ hs) names) ≡ true
+    by : (o : Option (List ℕ)) → slice_get names h ≡ o → and_then (with_unit on (unit_of on o)) (refuted (g ∷ hs) names) ≡ true
         → ((l : ℕ) → lit_true v l ≡ true → refuted (g ∷ hs) names (slice_set on l true) ≡ true → ⊥) → ⊥
     by None s e go = cc
     by (Some c) s e go = last c s (unit_after on None c) refl e go

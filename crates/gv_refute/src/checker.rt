@@ -44,6 +44,37 @@ pub fn check(clauses: &Clauses, log: &Log, marks: &mut Marks) -> Verdict
     Verdict::Accepted
 }
 
+/// Whether some step has the empty clause.
+pub fn proves_none(log: &Log) -> bool
+    ensures { IsTrue result ↔ ProvesNone log.now }
+{
+    for step in log.items() {
+        if step.clause.items().is_empty() {
+            return true;
+        }
+    }
+    false
+}
+
+/// Whether for each input that is on some step says that it, or a lower one that is off in these
+/// bits, has to be on: its clause is, in rising order, the literal of the input and those of the
+/// lower inputs that are off.
+pub fn proves_least(log: &Log, bits: &Bits) -> bool
+    ensures { IsTrue result ↔ ProvesLeast log.now bits.now }
+{
+    let mut from = 0;
+    for (input, on) in bits.items().iter().enumerate() {
+        if !*on {
+            continue;
+        }
+        match step_at(log.items(), from, bits.items(), input) {
+            Some(place) => from = place,
+            None => return false,
+        }
+    }
+    true
+}
+
 // Whether step i follows. Afterwards nothing is marked.
 fn step_follows(marks: &mut Marks, clauses: &[Clause], log: &[Step], i: usize) -> bool
     requires step { i < length log.now }
@@ -147,37 +178,6 @@ fn unit_of(marks: &Marks, lits: &[Lit]) -> Option<Lit>
         }
     }
     found
-}
-
-/// Whether some step has the empty clause.
-pub fn proves_none(log: &Log) -> bool
-    ensures { IsTrue result ↔ ProvesNone log.now }
-{
-    for step in log.items() {
-        if step.clause.items().is_empty() {
-            return true;
-        }
-    }
-    false
-}
-
-/// Whether for each input that is on some step says that it, or a lower one that is off in these
-/// bits, has to be on: its clause is, in rising order, the literal of the input and those of the
-/// lower inputs that are off.
-pub fn proves_least(log: &Log, bits: &Bits) -> bool
-    ensures { IsTrue result ↔ ProvesLeast log.now bits.now }
-{
-    let mut from = 0;
-    for (input, on) in bits.items().iter().enumerate() {
-        if !*on {
-            continue;
-        }
-        match step_at(log.items(), from, bits.items(), input) {
-            Some(place) => from = place,
-            None => return false,
-        }
-    }
-    true
 }
 
 // The place of a step that says so of an input, looked for from `from` on and then from the start.

@@ -4,7 +4,7 @@ ghost use Rattle.std.specs.Prelude.{◌≡◌, ◌↔◌, ◌*◌, ◌<◌, ℕ,
 ghost use Rattle.gv_logic.specs.Literals.{AllTrue};
 ghost use Rattle.gv_logic.specs.Formulas.{Formula};
 ghost use Rattle.gv_logic.specs.Logs.{Step as LogStep, follows, IsValid, step_clauses, ProvesNone, ProvesLeast};
-ghost use Rattle.gv_logic.specs.Least.{Lesser};
+ghost use Rattle.gv_base.specs.Least.{Lesser};
 ghost use Rattle.gv_refute.specs.Reached.{Reaches};
 ghost use Rattle.gv_refute.specs.Rules.{Follows};
 

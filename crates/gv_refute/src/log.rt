@@ -33,11 +33,13 @@ impl Hints {
         }
     }
 
-    /// These hints.
+    /// These hints. There is no room for more than a list can have.
     pub fn of(alloc: Global, hints: &[u32]) -> Result<Hints, NoMemory>
-        requires { length hints.now < 2 ^ 32 }
         ensures { IfOk result (λ list. list ≡ hints.now) }
     {
+        if hints.len() > u32::MAX as usize {
+            return Err(NoMemory);
+        }
         Ok(Hints {
             items: hints.to_vec(alloc)?,
         })
@@ -55,6 +57,7 @@ impl Hints {
         Ok(())
     }
 
+    /// The numbers in order.
     pub fn items(&self) -> &[u32]
         ensures items { result.now ≡ self.now }
         ensures few { length self.now < 2 ^ 32 }
@@ -62,6 +65,7 @@ impl Hints {
         &self.items
     }
 
+    /// The same hints once more. O(length).
     pub fn copy(&self, alloc: Global) -> Result<Hints, NoMemory>
         ensures { IfOk result (λ hints. hints ≡ self.now) }
     {
@@ -74,7 +78,9 @@ impl Hints {
 /// A clause, and the hints by which it follows from the clauses and the earlier steps.
 #[derive(Drop)]
 pub struct Step {
+    /// What follows.
     pub clause: Clause,
+    /// By which clauses.
     pub hints: Hints,
 }
 
@@ -137,6 +143,7 @@ impl Log {
         Ok(())
     }
 
+    /// The steps in order.
     pub fn items(&self) -> &[Step]
         ensures items { result.now ≡ self.now }
         ensures few { length self.now < 2 ^ 32 }
@@ -144,6 +151,7 @@ impl Log {
         &self.items
     }
 
+    /// The same steps once more. O(steps, literals and hints).
     pub fn copy(&self, alloc: Global) -> Result<Log, NoMemory>
         ensures { IfOk result (λ log. log ≡ self.now) }
     {
