@@ -2,16 +2,14 @@
 use Rattle.std.proofs.Common.{◌≡◌, inl, inr, ℕ, zero, suc, ◌+◌, ◌^◌, ◌<◌, ◌≤◌, Bool, true, false, cond, nat_eq, List, [], ◌∷◌, ◌++◌, length, refl, subst, length-append, arith}
 use Rattle.std.specs.List.{AllByRecursion}
 use Rattle.std.proofs.lemmas.Grind.{common_steps}
-use Rattle.gv_logic.specs.Kept.{IsWithin, IsRising}
+use Rattle.gv_logic.specs.Circuits.{Circuit}
+use Rattle.gv_logic.specs.Encoding.{all_clauses}
+use Rattle.gv_logic.specs.Kept.{IsWithin, IsRising, AreApart, AreKept}
+use Rattle.gv_solver.specs.Laws.{KeptBoundLaw}
 use Rattle.gv_solver.specs.Work.{AreNewSets}
 use Rattle.gv_logic.specs.Logs.{HasList}
 use Rattle.gv_solver.proofs.Lessons.{has_last}
 use Rattle.gv_solver.proofs.Starts.{rising_le}
-
--- none of the later ones contains the first
-abbrev pub AreApart : List (List ℕ) → Type 0
-AreApart [] = Unit {0}
-AreApart (s ∷ ss) = AllByRecursion (λ t. IsWithin s t → ⊥) ss × AreApart ss
 
 -- the sets that begin with b, without it; and the others
 abbrev firsts : ℕ → List (List ℕ) → List (List ℕ)
@@ -148,12 +146,26 @@ rising_end : (n : ℕ) (ss : List (List ℕ)) → AllByRecursion (IsRising 0 n) 
 rising_end n [] a = (omega arith, tt)
 rising_end n (s ∷ ss) a = (a.0, rising_end n ss a.1)
 
+zero-plus : (n : ℕ) → n ≡ 0 + n
+zero-plus n = omega arith
+
+pub kept_bound : KeptBoundLaw
+kept_bound k sets r a = count_apart k 0 sets (subst (λ t. AllByRecursion (IsRising 0 t) sets) (zero-plus k) r) a
+
 -- so there are fewer kept sets than 2 ^ n
 pub kept_few : (n : ℕ) (cs ss : List (List ℕ)) → AllByRecursion (IsRising 0 n) ss → AreNewSets cs [] ss → length ss < 2 ^ n
 kept_few n cs ss r k =
-    let c = count_apart n 0 (ss ++ [] ∷ []) (subst (λ t. AllByRecursion (IsRising 0 t) (ss ++ [] ∷ [])) (zero-plus n) (rising_end n ss r)) (apart_end cs [] ss k) in
+    let c = kept_bound n (ss ++ [] ∷ []) (rising_end n ss r) (apart_end cs [] ss k) in
     let l = length-append ss ([] ∷ []) in
     omega (arith, c, l)
-  where
-    zero-plus : (m : ℕ) → m ≡ 0 + m
-    zero-plus m = omega arith
+
+kept_rising : (g : Circuit) (earlier sets : List (List ℕ)) → AreKept g earlier sets → AllByRecursion (IsRising 0 g.inputs) sets
+kept_rising g earlier [] k = tt
+kept_rising g earlier (x ∷ xs) k = (k.0.rising, kept_rising g (earlier ++ x ∷ []) xs k.1)
+
+kept_new : (g : Circuit) (earlier sets : List (List ℕ)) → AreKept g earlier sets → AreNewSets (all_clauses g) earlier sets
+kept_new g earlier [] k = tt
+kept_new g earlier (x ∷ xs) k = (record { some = k.0.some; apart = k.0.apart; tight = k.0.tight }, kept_new g (earlier ++ x ∷ []) xs k.1)
+
+pub kept_fewer : (g : Circuit) (sets : List (List ℕ)) → AreKept g [] sets → length sets < 2 ^ g.inputs
+kept_fewer g sets k = kept_few g.inputs (all_clauses g) sets (kept_rising g [] sets k) (kept_new g [] sets k)

@@ -1,39 +1,23 @@
 -- From clauses to gates.
-use Rattle.std.proofs.Common.{◌≡◌, ◌≢◌, ◌⊎◌, ◌↔◌, inl, inr, ℕ, ◌+◌, ◌*◌, ◌/◌, ◌%◌, ◌<◌, Bool, true, false, ◌||◌, List, [], ◌∷◌, ◌++◌, length, get_or, refl, sym, ap, ◌∙◌, arith}
+use Rattle.std.proofs.Common.{◌≡◌, inl, inr, ℕ, ◌+◌, ◌*◌, ◌/◌, ◌%◌, ◌<◌, Bool, true, false, ◌||◌, List, [], ◌∷◌, ◌++◌, length, get_or, refl, sym, ap, ◌∙◌, arith}
 use Rattle.std.specs.List.{AllByRecursion}
-use Rattle.std.proofs.lemmas.List.{get_or-take}
-use Rattle.gv_encode.specs.Extends.{Extends}
-use Rattle.gv_logic.specs.Circuits.{Circuit, at, value, IsCircuit}
+use Rattle.gv_logic.specs.Backed.{BacksNone, BacksBits}
+use Rattle.gv_logic.specs.Circuits.{Circuit, value, IsCircuit}
 use Rattle.gv_logic.specs.Encoding.{all_clauses, formula_of}
-use Rattle.gv_logic.specs.Formulas.{Formula}
 use Rattle.gv_logic.specs.Kept.{IsRising, AreKept, AreOff}
-use Rattle.gv_logic.specs.Least.{Lesser}
 use Rattle.gv_logic.specs.Literals.{lit_true, clause_true, AllTrue}
-use Rattle.gv_logic.specs.Logs.{Step, IsValid, ProvesNone, ProvesLeast, step_clauses, set_clause, HasList}
+use Rattle.gv_logic.specs.Logs.{Step, IsValid, step_clauses, set_clause, HasList}
 use Rattle.gv_logic.specs.Partial.{Has}
 use Rattle.gv_solver.specs.declared.answer.Answer.{Answer}
 use Rattle.gv_solver.specs.declared.answer.Answer.TheVariants.{Refuted, Found, Spent}
-use Rattle.gv_solver.specs.Answers.{IsAnswer, IsRefutation, IsLeastModel, IsSpent, RefutesGates, FindsLeast, SpendsBudget, Answers}
+use Rattle.gv_solver.specs.Answers.{RefutesGates, FindsLeast, SpendsBudget, Answers}
+use Rattle.gv_solver.specs.Found.{IsAnswer, IsRefutation, IsLeastModel, IsSpent}
 use Rattle.gv_solver.specs.Work.{AreNewSets}
 use Rattle.gv_solver.proofs.Forced.{length-bits}
 use Rattle.gv_solver.proofs.Model.{model_value}
+use Rattle.gv_solver.proofs.Backing.{Laws, extends, backs_none, backs_bits}
 use Rattle.gv_solver.proofs.Count.{kept_few}
 use Rattle.gv_solver.proofs.Starts.{rising_le}
-
--- what the laws of the encoding and of logs say
-pub record Laws : Type 0 where
-  pub root : (g : Circuit) (bits : List Bool) → IsCircuit g → length bits ≡ g.inputs → (value g bits ≡ true) ↔ ((all : List Bool) × Extends g bits all × AllTrue (at all) (all_clauses g))
-  pub steps : (f : Formula) (log : List Step) (v : ℕ → Bool) → IsValid f log → AllTrue v f.clauses → AllTrue v (step_clauses log)
-  pub none : (f : Formula) (log : List Step) (v : ℕ → Bool) → IsValid f log → ProvesNone log → AllTrue v f.clauses → ⊥
-  pub least : (f : Formula) (log : List Step) (bits other : List Bool) (v : ℕ → Bool) → IsValid f log → ProvesLeast log bits → AllTrue v f.clauses → length other ≡ length bits
-      → ((i : ℕ) → i < length bits → v i ≡ get_or other i false) → Lesser other bits → ⊥
-
--- bits that give the root true extend to an assignment that makes all clauses true
-extends : (l : Laws) (g : Circuit) (bits : List Bool) → IsCircuit g → length bits ≡ g.inputs → value g bits ≡ true
-    → (v : ℕ → Bool) × AllTrue v (all_clauses g) × ((i : ℕ) → i < g.inputs → v i ≡ get_or bits i false)
-extends l g bits w n e =
-    let x = (l.root g bits w n).0 e in
-    (at x.0, x.2, λ i lt. sym (get_or-take g.inputs x.0 i false lt) ∙ ap (λ b. get_or b i false) x.1.agrees)
 
 has_true : (v : ℕ → Bool) (c : List ℕ) (cs : List (List ℕ)) → AllTrue v cs → HasList c cs → clause_true v c ≡ true
 has_true v c [] a h = absurd h
@@ -59,40 +43,19 @@ no_ : (b : Bool) → b ≡ true → b ≡ false → ⊥
 no_ b t f = cc
 
 refutes : (l : Laws) (g : Circuit) (budget : ℕ) (log : List Step) → IsCircuit g → IsRefutation (formula_of g) g.inputs budget log → RefutesGates g budget log
-refutes l g budget log w r = record {
-  none = λ bits n e. let x = extends l g bits w n e in l.none (formula_of g) log x.0 r.valid r.proves x.1;
-  valid = r.valid;
-  proves = r.proves;
-  short = r.short;
-}
-
--- of two different lists one is lesser
-one_lesser : (bits other : List Bool) → length other ≡ length bits → (Lesser other bits → ⊥) → other ≢ bits → Lesser bits other
-one_lesser [] [] n f d = absurd (d refl)
-one_lesser [] (o ∷ os) n f d = absurd (omega (arith, n))
-one_lesser (b ∷ bs) [] n f d = absurd (omega (arith, n))
-one_lesser (b ∷ bs) (o ∷ os) n f d = by b o refl refl (λ s. one_lesser bs os (omega (arith, n)) (λ h. f (inr (sym s, h))) (λ q. d (rw (s, q) refl)))
-  where
-    by : (u v : Bool) → b ≡ u → o ≡ v → (b ≡ o → Lesser bs os) → ((b ≡ false) × (o ≡ true)) ⊎ ((b ≡ o) × Lesser bs os)
-    by false true s t go = inl (s, t)
-    by true false s t go = absurd (f (inl (t, s)))
-    by true true s t go = inr (s ∙ sym t, go (s ∙ sym t))
-    by false false s t go = inr (s ∙ sym t, go (s ∙ sym t))
+refutes l g budget log w r =
+    let b : BacksNone g log = record { valid = r.valid; proves = r.proves } in
+    record { none = backs_none l g log w b; backed = b; short = r.short }
 
 finds : (l : Laws) (g : Circuit) (budget : ℕ) (bits : List Bool) (log : List Step) → IsCircuit g → IsLeastModel (formula_of g) g.inputs budget bits log → FindsLeast g budget bits log
 finds l g budget bits log w r =
-    let size : length bits ≡ g.inputs = ap length r.model.bits_are ∙ length-bits r.model.on g.inputs in
-    record {
-      size = size;
-      holds = ap (value g) r.model.bits_are ∙ model_value g r.model.on w r.model.proper r.model.quiet r.model.assigned;
-      least = λ other n e d.
-          let x = extends l g other w n e in
-          let same : length other ≡ length bits = n ∙ sym size in
-          one_lesser bits other same (l.least (formula_of g) log bits other x.0 r.valid r.proves x.1 same (λ i lt. x.2 i (rw (sym size) lt))) d;
+    let b : BacksBits g bits log = record {
+      size = ap length r.model.bits_are ∙ length-bits r.model.on g.inputs;
       valid = r.valid;
+      holds = ap (value g) r.model.bits_are ∙ model_value g r.model.on w r.model.proper r.model.quiet r.model.assigned;
       proves = r.proves;
-      short = r.short;
-    }
+    } in
+    record { least = backs_bits l g bits log w b; backed = b; short = r.short }
 
 small : (b t : ℕ) (set : List ℕ) → IsRising b t set → (i : ℕ) → Has i set → i < t
 small b t [] r i h = absurd h

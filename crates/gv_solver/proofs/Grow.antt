@@ -68,6 +68,7 @@ among_both set (e ∷ es) fs a b = (a.0, among_both set es fs a.1 b)
 pub settled : (f : Formula) (old new : State) (said : Propagation) → IsTrail f new → Propagates f.clauses old new → Tells f.clauses new said → Settles f old new said
 settled f old new said over p t = record {
   variables = p.variables;
+  level = p.level;
   more = rw (made_of old new p.added p.variables p.entries) (below_made (assignment old) p.added);
   over = over;
   among = λ set a. rw p.entries (among_both set old.entries p.added a (among_forced f.clauses set old.level (assignment old) p.added p.forced));
@@ -91,8 +92,8 @@ front_zero l last set (e ∷ es) a = by (nat_le e.level 0) refl (front_zero (lev
     by true z more = (λ q. absurd (none e.reason a.0 z q), more)
     by false z more = tt
 
-pub rewound : (f : Formula) (old new : State) → IsTrail f old → IsTrail f new → new.variables ≡ old.variables → new.entries ≡ front_to 0 old.entries → Rewinds f old new
-rewound f old new before over v e = record { variables = v; over = over; among = λ set. rw e (front_zero 0 old.level set old.entries before.levels) }
+pub rewound : (f : Formula) (old new : State) → IsTrail f old → IsTrail f new → new.variables ≡ old.variables → new.entries ≡ front_to 0 old.entries → new.level ≡ 0 → Rewinds f old new
+rewound f old new before over v e l = record { variables = v; level = l; over = over; among = λ set. rw e (front_zero 0 old.level set old.entries before.levels) }
 
 pub rest_at : (set : List ℕ) (k : ℕ) → k < length set → drop k set ≡ get_or set k 0 ∷ drop (k + 1) set
 rest_at set k lt = rw add-one (drop-cons set k 0 lt)

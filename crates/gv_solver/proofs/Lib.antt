@@ -8,9 +8,13 @@ pub mod Down
 pub mod Rest
 pub mod Looks
 pub mod Lessons
+pub mod Points
+pub mod Counts
+pub mod Late
 pub mod Forced
 pub mod Ends
 pub mod Truth
 pub mod Model
 pub mod Count
+pub mod Backing
 pub mod Gates

@@ -8,7 +8,7 @@ use Rattle.gv_logic.specs.Circuits.{Gate, Circuit, at, all_lits_true, op_value, 
 use Rattle.gv_logic.specs.Encoding.{op_clauses, gate_clauses, clauses_from, all_clauses}
 use Rattle.gv_logic.specs.Literals.{opposite, lit_true, clause_true}
 use Rattle.gv_logic.specs.Partial.{is_true, Quiet, AllQuiet, IsProper}
-use Rattle.gv_solver.specs.Answers.{bits_to}
+use Rattle.gv_solver.specs.Found.{bits_to}
 use Rattle.gv_solver.specs.Search.{IsAssigned}
 use Rattle.gv_solver.proofs.Core.{quiet_true, opposite_twice, opposite_even, opposite_odd}
 use Rattle.gv_solver.proofs.Forced.{get_bits, length-bits}

@@ -28,7 +28,7 @@ no_ : (b : Bool) → b ≡ true → b ≡ false → ⊥
 no_ b t f = cc
 
 -- a literal that is true has no entry behind
-apart : (cs : List (List ℕ)) (on : List Bool) (es : List Entry) (l : ℕ) → IsDerived cs on es → is_true on l ≡ true → AllByRecursion (λ e. l ≡ e.lit → ⊥) es
+pub apart : (cs : List (List ℕ)) (on : List Bool) (es : List Entry) (l : ℕ) → IsDerived cs on es → is_true on l ≡ true → AllByRecursion (λ e. l ≡ e.lit → ⊥) es
 apart cs on [] l d t = tt
 apart cs on (e ∷ es) l d t = (λ q. no_ (is_true on l) t (subst (λ z. is_true on z ≡ false) (sym q) d.0.free), apart cs (slice_set on e.lit true) es l d.1 (set_keeps on e.lit l t))
 
@@ -36,7 +36,7 @@ behind : (e : Entry) (es xs : List Entry) → AllByRecursion (λ x. e.lit ≡ x.
 behind e es [] a r = tt
 behind e es (x ∷ xs) a r = (rw (other e.lit x.lit a.0) r.0, behind e es xs a.1 r.1)
 
-reasons_are : (cs : List (List ℕ)) (on : List Bool) (es : List Entry) → IsDerived cs on es → AllByRecursion (λ e. reason_of e.lit es ≡ e.reason) es
+pub reasons_are : (cs : List (List ℕ)) (on : List Bool) (es : List Entry) → IsDerived cs on es → AllByRecursion (λ e. reason_of e.lit es ≡ e.reason) es
 reasons_are cs on [] d = tt
 reasons_are cs on (e ∷ es) d = (
   rw (self_eq e.lit) refl,

@@ -1,73 +1,29 @@
--- What an answer carries: of clauses, and of the gates that they are of.
-use Rattle.std.specs.Prelude.{◌≡◌, ◌≢◌, ℕ, zero, suc, ◌+◌, ◌*◌, ◌^◌, ◌<◌, ◌≤◌, Bool, true, List, [], ◌∷◌, ◌++◌, length}
+-- What an answer carries.
+use Rattle.std.specs.Prelude.{◌≡◌, ℕ, ◌+◌, ◌*◌, ◌^◌, ◌<◌, ◌≤◌, Bool, List, [], length}
 use Rattle.std.specs.List.{AllByRecursion}
+use Rattle.gv_base.specs.Least.{IsLeast, HasNone}
+use Rattle.gv_logic.specs.Backed.{BacksNone, BacksBits}
 use Rattle.gv_logic.specs.Circuits.{Circuit, value}
 use Rattle.gv_logic.specs.Encoding.{formula_of}
-use Rattle.gv_logic.specs.Formulas.{Formula}
-use Rattle.gv_logic.specs.Kept.{IsRising, AreKept}
-use Rattle.gv_logic.specs.Least.{Lesser}
-use Rattle.gv_logic.specs.Logs.{Step, IsValid, ProvesNone, ProvesLeast, HasList, step_clauses, set_clause}
-use Rattle.gv_logic.specs.Partial.{is_true, AllQuiet, IsProper}
-use Rattle.gv_solver.specs.Search.{IsAssigned}
-use Rattle.gv_solver.specs.Work.{AreNewSets}
+use Rattle.gv_logic.specs.Kept.{AreKept}
+use Rattle.gv_logic.specs.Logs.{Step, IsValid, HasList, step_clauses, set_clause}
 use Rattle.gv_solver.specs.declared.answer.Answer.{Answer}
 use Rattle.gv_solver.specs.declared.answer.Answer.TheVariants.{Refuted, Found, Spent}
-
--- the inputs' values
-abbrev pub bits_to : List Bool → ℕ → List Bool
-bits_to on zero = []
-bits_to on (suc n) = bits_to on n ++ is_true on (2 * n) ∷ []
-
--- a partial assignment with these inputs that leaves no clause false or unit
-pub record HasModel (cs : List (List ℕ)) (inputs : ℕ) (bits : List Bool) : Type 0 where
-  pub on : List Bool
-  pub proper : IsProper on
-  pub quiet : AllQuiet on cs
-  pub assigned : (j : ℕ) → j < inputs → IsAssigned on j
-  pub bits_are : bits ≡ bits_to on inputs
 
 -- a log has at most two steps for each kept set, two for a conflict that leaves none, and one for each input
 abbrev pub IsShort : ℕ → ℕ → List Step → Type 0
 IsShort inputs budget log = length log ≤ 2 * budget + inputs + 2
 
-pub record IsRefutation (f : Formula) (inputs budget : ℕ) (log : List Step) : Type 0 where
-  pub valid : IsValid f log
-  pub proves : ProvesNone log
-  pub short : IsShort inputs budget log
-
-pub record IsLeastModel (f : Formula) (inputs budget : ℕ) (bits : List Bool) (log : List Step) : Type 0 where
-  pub model : HasModel f.clauses inputs bits
-  pub valid : IsValid f log
-  pub proves : ProvesLeast log bits
-  pub short : IsShort inputs budget log
-
-pub record IsSpent (f : Formula) (inputs budget : ℕ) (log : List Step) (sets : List (List ℕ)) : Type 0 where
-  pub valid : IsValid f log
-  pub kept : AreNewSets f.clauses [] sets
-  pub count : length sets ≡ budget
-  pub rising : AllByRecursion (IsRising 0 inputs) sets
-  pub stand : AllByRecursion (λ set. HasList (set_clause set) (step_clauses log)) sets
-  pub short : IsShort inputs budget log
-
-abbrev pub IsAnswer : Formula → ℕ → ℕ → Answer → Type 0
-IsAnswer f inputs budget (Refuted log) = IsRefutation f inputs budget log
-IsAnswer f inputs budget (Found bits log) = IsLeastModel f inputs budget bits log
-IsAnswer f inputs budget (Spent log sets) = IsSpent f inputs budget log sets
-
 -- no bits give the root true, and the log proves it
 pub record RefutesGates (g : Circuit) (budget : ℕ) (log : List Step) : Type 0 where
-  pub none : (bits : List Bool) → length bits ≡ g.inputs → value g bits ≡ true → ⊥
-  pub valid : IsValid (formula_of g) log
-  pub proves : ProvesNone log
+  pub none : HasNone (value g) g.inputs
+  pub backed : BacksNone g log
   pub short : IsShort g.inputs budget log
 
 -- the least bits that give the root true, and the log proves them least
 pub record FindsLeast (g : Circuit) (budget : ℕ) (bits : List Bool) (log : List Step) : Type 0 where
-  pub size : length bits ≡ g.inputs
-  pub holds : value g bits ≡ true
-  pub least : (other : List Bool) → length other ≡ g.inputs → value g other ≡ true → other ≢ bits → Lesser bits other
-  pub valid : IsValid (formula_of g) log
-  pub proves : ProvesLeast log bits
+  pub least : IsLeast (value g) g.inputs bits
+  pub backed : BacksBits g bits log
   pub short : IsShort g.inputs budget log
 
 -- as many kept sets as the budget allows, of fewer than all sets of inputs; the clause of each is a step's

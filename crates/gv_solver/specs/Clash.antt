@@ -1,4 +1,4 @@
--- What a trail shows of a set.
+-- What a trail shows of a set: words of private functions.
 use Rattle.std.specs.Prelude.{◌≡◌, ◌⊎◌, ℕ, ◌+◌, ◌*◌, true, false, Option, Some, None, List, [], ◌∷◌, ◌/◌, replicate}
 use Rattle.std.specs.List.{AllByRecursion}
 use Rattle.gv_logic.specs.Kept.{IsOpen, Clashes, IsTight, IsRising}

@@ -5,6 +5,10 @@ pub mod Clash
 pub mod Puts
 pub mod Search
 pub mod Work
+pub mod Points
+pub mod Counts
 pub mod Rounds
 pub mod Proving
 pub mod Answers
+pub mod Found
+pub mod Laws

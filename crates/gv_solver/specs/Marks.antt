@@ -1,4 +1,4 @@
--- The partial assignment with which the step of a set begins.
+-- The partial assignment with which the step of a set begins: words of private functions.
 use Rattle.std.specs.Prelude.{◌≡◌, ℕ, ◌+◌, ◌*◌, Bool, true, List, [], ◌∷◌, slice_set}
 use Rattle.gv_logic.specs.Partial.{is_true}
 

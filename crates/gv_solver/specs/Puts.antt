@@ -1,4 +1,4 @@
--- What a trail keeps while inputs are put off.
+-- What a trail keeps while inputs are put off: words of private functions.
 use Rattle.std.specs.Prelude.{◌≡◌, ℕ, List, ◌++◌}
 use Rattle.gv_logic.specs.Formulas.{Formula}
 use Rattle.gv_logic.specs.Kept.{IsWithin}
@@ -19,6 +19,7 @@ pub record Grows (set : List ℕ) (old new : State) : Type 0 where
 -- what a propagation does to a trail
 pub record Settles (f : Formula) (old new : State) (said : Propagation) : Type 0 where
   pub variables : new.variables ≡ old.variables
+  pub level : new.level ≡ old.level
   pub more : Below (assignment old) (assignment new)
   pub over : IsTrail f new
   pub among : (set : List ℕ) → AreAmong set old.entries → AreAmong set new.entries
@@ -28,5 +29,6 @@ pub record Settles (f : Formula) (old new : State) (said : Propagation) : Type 0
 -- a trail without decisions
 pub record Rewinds (f : Formula) (old new : State) : Type 0 where
   pub variables : new.variables ≡ old.variables
+  pub level : new.level ≡ 0
   pub over : IsTrail f new
   pub among : (set : List ℕ) → AreAmong set new.entries

@@ -1,4 +1,4 @@
--- The hints that a trail gives.
+-- The hints that a trail gives, as the code finds them: words of private functions, on which no public clause rests.
 use Rattle.std.specs.Prelude.{ℕ, Bool, true, if◌then◌else◌, Option, Some, None, List, [], ◌∷◌, slice_set}
 use Rattle.gv_logic.specs.Literals.{opposite}
 use Rattle.gv_logic.specs.Partial.{is_true}

@@ -1,4 +1,5 @@
--- The decisions on which a false clause rests.
+-- The decisions on which a false clause rests, as the code finds them: words of private functions, on which no
+-- public clause rests.
 use Rattle.std.specs.Prelude.{ℕ, ◌/◌, ◌*◌, Bool, true, false, if◌then◌else◌, Option, Some, None, List, [], ◌∷◌, slice_get, slice_set, replicate}
 use Rattle.gv_logic.specs.Literals.{opposite}
 use Rattle.gv_logic.specs.Partial.{is_true}

@@ -1,4 +1,4 @@
--- One round of the solver.
+-- One round of the solver: words of private functions.
 use Rattle.std.specs.Prelude.{◌≡◌, ℕ, ◌+◌, ◌<◌, ◌≤◌, List, length}
 use Rattle.gv_logic.specs.Formulas.{Formula}
 use Rattle.gv_logic.specs.Logs.{IsValid, ProvesNone}
@@ -20,11 +20,16 @@ pub record IsModel (cs : List (List ℕ)) (inputs : ℕ) (s : State) : Type 0 wh
 pub record IsRefuted (f : Formula) (old new : Work) : Type 0 where
   pub valid : IsValid f new.log
   pub proves : ProvesNone new.log
-  pub count : length new.log ≡ length old.log + 1
+  pub count : length new.log ≤ length old.log + 2
 
-pub record IsMore (f : Formula) (inputs budget : ℕ) (old new : Work) : Type 0 where
+-- one more set, with two steps at most
+pub record IsOneMore (f : Formula) (inputs : ℕ) (old new : Work) : Type 0 where
   pub work : IsWork f inputs new
   pub sets : length new.sets ≡ length old.sets + 1
+  pub count : length new.log ≤ length old.log + 2
+
+pub record IsMore (f : Formula) (inputs budget : ℕ) (old new : Work) : Type 0 where
+  pub more : IsOneMore f inputs old new
   pub room : length old.sets < budget
 
 abbrev pub Rounds : Formula → ℕ → ℕ → Work → Work → State → Round → Type 0

@@ -1,14 +1,16 @@
--- What holds on the way down, with the least undecided input decided at each level.
+-- What holds on the way down, with the least undecided input decided at each level: words of private functions.
 use Rattle.std.specs.Prelude.{◌≡◌, ◌⊎◌, ℕ, ◌+◌, ◌*◌, ◌/◌, ◌<◌, ◌≤◌, ◌^◌, Bool, true, false, Some, None, List, [], ◌∷◌, slice_get, slice_set, replicate}
 use Rattle.gv_logic.specs.Formulas.{Formula}
 use Rattle.gv_logic.specs.Kept.{IsWithin, IsRising}
 use Rattle.gv_logic.specs.Logs.{set_clause}
-use Rattle.gv_logic.specs.Partial.{is_true, AllQuiet}
+use Rattle.gv_logic.specs.Literals.{opposite}
+use Rattle.gv_logic.specs.Partial.{is_true, Has, AllQuiet}
 use Rattle.gv_trail.specs.declared.propagation.Propagation.{Propagation}
 use Rattle.gv_trail.specs.declared.propagation.Propagation.TheVariants.{Fixed, Conflict}
 use Rattle.gv_trail.specs.Entries.{Entry, State, assignment}
 use Rattle.gv_trail.specs.Derived.{IsTrail}
 use Rattle.gv_trail.specs.Told.{IsFalseAt}
+use Rattle.gv_trail.specs.Watching.{IsIn}
 use Rattle.gv_solver.specs.Clash.{decided}
 
 abbrev pub IsAssigned : List Bool → ℕ → Type 0
@@ -45,6 +47,21 @@ pub record IsSearched (cs : List (List ℕ)) (inputs : ℕ) (s : State) : Type 0
   pub ordered : IsOrdered (replicate (2 * s.variables) false) s.entries
   pub rising : IsRising 0 inputs (decided s.entries)
   pub free : AreFree cs (decided s.entries)
+
+-- the clause has a literal that is false by an entry of the present level
+pub record IsLate (s : State) (clause : List ℕ) : Type 0 where
+  pub entry : Entry
+  pub among : IsIn entry s.entries
+  pub level : entry.level ≡ s.level
+  pub has : Has (opposite entry.lit) clause
+
+abbrev pub IsLateAt : List (List ℕ) → State → ℕ → Type 0
+IsLateAt cs s k = (c : List ℕ) → slice_get cs k ≡ Some c → IsLate s c
+
+-- a clause that is false became so at the present level
+abbrev pub TellsLate : List (List ℕ) → State → Propagation → Type 0
+TellsLate cs s Fixed = Unit {0}
+TellsLate cs s (Conflict k) = 0 < s.level → IsLateAt cs s k
 
 abbrev pub Arrives : List (List ℕ) → ℕ → State → Propagation → Type 0
 Arrives cs inputs s Fixed = AllQuiet (assignment s) cs × ((j : ℕ) → j < inputs → IsAssigned (assignment s) j)

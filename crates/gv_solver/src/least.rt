@@ -4,7 +4,7 @@
 ghost use Rattle.std.specs.Prelude.{◌≡◌, ◌<◌, ◌≤◌, ◌^◌, IfOk, OnOk, length};
 ghost use Rattle.gv_logic.specs.Logs.{offs, least_set};
 ghost use Rattle.gv_trail.specs.Entries.{assignment};
-ghost use Rattle.gv_solver.specs.Answers.{bits_to};
+ghost use Rattle.gv_solver.specs.Found.{bits_to};
 ghost use Rattle.gv_solver.specs.Proving.{AreOnByForce, Proves};
 ghost use Rattle.gv_solver.specs.Search.{Ready};
 

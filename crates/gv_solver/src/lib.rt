@@ -2,17 +2,21 @@
 //!
 //! `solve` searches over the clauses of gates. It decides the least undecided input off after each
 //! complete propagation, and of each conflict it learns a kept set: inputs of which one has to be
-//! on. The clause of the set is a step of the log, and is attached. It stands on `gv_trail` for
-//! propagation and on `gv_refute` for logs; the layer above uses the contract of `solve` alone.
+//! on. The clause of the set is a step of the log, and is attached; before it comes the clause of the
+//! conflict's first implication point. It stands on `gv_trail` for propagation and on `gv_refute` for
+//! logs. The layer above uses the contract of `solve`, and `backed_law` for answers that weren't found
+//! here.
 //!
-//! A conflict costs a propagation from level 0 for each member of the set that it rests on, one for
+//! A conflict costs two propagations from level 0 for each member of the set that it rests on, two for
 //! the step, and one way down; each input that is on costs one more at the end. Memory is a copy of
 //! the clauses, the log, the sets, the trail, and marks as long as the literals.
 #![tactic(auto)]
 
 mod answer;
+mod law;
 mod least;
 mod marks;
+mod point;
 mod probing;
 mod resting;
 mod rounds;
@@ -24,5 +28,6 @@ mod steps;
 mod tests;
 
 pub use answer::Answer;
+pub use law::{backed_law, kept_bound_law};
 pub use sets::{FlagSet, FlagSets};
 pub use solver::solve;

@@ -1,23 +1,12 @@
-//! Marks by literal: O(variables) to make, O(1) to set and read.
+//! Marks by literal: O(variables) to make, O(1) to set.
 
 ghost use Rattle.std.specs.Prelude.{◌≡◌, ◌*◌, ◌<◌, ◌^◌, true, false, IfOk, replicate, slice_set};
 ghost use Rattle.std.specs.List.{AllByRecursion};
-ghost use Rattle.gv_logic.specs.Partial.{is_true};
 ghost use Rattle.gv_solver.specs.Marks.{marked};
 
 use gv_base::NoMemory;
 use gv_logic::Lit;
 use std::alloc::Global;
-
-/// Whether the literal is marked.
-pub(crate) fn is_on(on: &[bool], lit: Lit) -> bool
-    ensures { result ≡ is_true on.now lit }
-{
-    match on.get(lit.0 as usize) {
-        Some(value) => *value,
-        None => false,
-    }
-}
 
 /// Marks the literal.
 pub(crate) fn mark(on: &mut Vec<bool>, lit: Lit)

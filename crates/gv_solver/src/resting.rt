@@ -5,9 +5,9 @@ ghost use Rattle.std.specs.Prelude.{◌≡◌, IfOk, slice_get};
 ghost use Rattle.gv_trail.specs.Entries.{lits_of};
 ghost use Rattle.gv_solver.specs.Rests.{marked_against, against_clause, needed_at, needed_by, rests_by, rests_on, reasons};
 
-use crate::marks::{is_on, mark, unmarked};
+use crate::marks::{mark, unmarked};
 use gv_base::NoMemory;
-use gv_logic::{Clauses, Lit};
+use gv_logic::{Clauses, Lit, is_on};
 use gv_trail::Trail;
 use std::alloc::Global;
 

@@ -5,7 +5,7 @@ ghost use Rattle.std.specs.Prelude.{◌+◌, ◌<◌};
 ghost use Rattle.gv_logic.specs.Partial.{AllQuiet};
 ghost use Rattle.gv_trail.specs.Entries.{assignment};
 ghost use Rattle.gv_trail.specs.Told.{Tells};
-ghost use Rattle.gv_solver.specs.Search.{Ready, IsSearch, IsSearched, Arrives};
+ghost use Rattle.gv_solver.specs.Search.{Ready, IsSearch, IsSearched, Arrives, TellsLate};
 
 use crate::probing::{rewind, settle};
 use gv_logic::{Clauses, Lit};
@@ -20,6 +20,7 @@ fn step_down(trail: &mut Trail, clauses: &Clauses, inputs: u32, input: u32) -> P
     ensures ready { Ready clauses.now inputs trail.new }
     ensures search { IsSearch clauses.now.clauses (input + 1) trail.new }
     ensures told { Tells clauses.now.clauses trail.new result }
+    ensures late { TellsLate clauses.now.clauses trail.new result }
 {
     let off = Lit(2 * input + 1);
     match trail.of(off) {
@@ -37,6 +38,7 @@ pub(crate) fn descend(trail: &mut Trail, clauses: &Clauses, inputs: u32) -> Prop
     ensures ready { Ready clauses.now inputs trail.new }
     ensures searched { IsSearched clauses.now.clauses inputs trail.new }
     ensures arrives { Arrives clauses.now.clauses inputs trail.new result }
+    ensures late { TellsLate clauses.now.clauses trail.new result }
 {
     rewind(trail, clauses);
     if let Propagation::Conflict { clause } = settle(trail, clauses) {

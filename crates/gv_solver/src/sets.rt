@@ -26,6 +26,7 @@ impl FlagSet {
         FlagSet { items }
     }
 
+    /// The inputs in order.
     pub fn items(&self) -> &[u32]
         ensures { result.now ≡ self.now }
     {
@@ -73,6 +74,7 @@ impl FlagSets {
         Ok(())
     }
 
+    /// The sets in order.
     pub fn items(&self) -> &[FlagSet]
         ensures { result.now ≡ self.now }
     {

@@ -4,7 +4,8 @@ ghost use Rattle.std.specs.Prelude.{◌≡◌, ◌<◌, ◌≤◌, ◌^◌, IfOk
 ghost use Rattle.gv_base.specs.Steps.{after};
 ghost use Rattle.gv_base.specs.declared.steps.Kind.TheVariants.{Solve};
 ghost use Rattle.gv_logic.specs.Encoding.{formula_of};
-ghost use Rattle.gv_solver.specs.Answers.{IsAnswer, Answers};
+ghost use Rattle.gv_solver.specs.Answers.{Answers};
+ghost use Rattle.gv_solver.specs.Found.{IsAnswer};
 
 use crate::least::{bits_of, prove_least};
 use crate::rounds::{Round, Work, one_round};
@@ -15,6 +16,31 @@ use gv_logic::{Clauses, Gates};
 use gv_refute::{Log, least_bits_law, step_law};
 use gv_trail::Trail;
 use std::alloc::Global;
+
+/// The least bits that give the gates' root true, a refutation, or, where the budget is spent, as
+/// many kept sets as it allows. A budget of N allows N kept sets, and is spent where a further one
+/// would be needed. Counts one Solve.
+pub fn solve<L: Ledger>(
+    alloc: Global,
+    gates: &Gates,
+    clauses: &Clauses,
+    budget: u32,
+    steps: &mut Steps<L>,
+) -> Result<Answer, NoMemory>
+    requires encoded { clauses.now ≡ formula_of gates.now }
+    requires some { 0 < budget }
+    requires most { budget ≤ 1000000 }
+    ensures ticked { steps.new ≡ after Solve steps.old }
+    ensures answers { IfOk result (Answers gates.now budget) }
+{
+    steps.tick(Kind::Solve);
+    // what the answer says of the clauses, said of the gates
+    encoding_law();
+    step_law();
+    least_bits_law();
+    let answer = search(alloc, clauses, gates.inputs(), budget)?;
+    Ok(answer)
+}
 
 // The least bits of the inputs under which no clause is false or unit, a refutation, or as many
 // kept sets as the budget allows.
@@ -56,29 +82,4 @@ fn search(alloc: Global, clauses: &Clauses, inputs: u32, budget: u32) -> Result<
             }
         }
     }
-}
-
-/// The least bits that give the gates' root true, a refutation, or, where the budget is spent, as
-/// many kept sets as it allows. A budget of N allows N kept sets, and is spent where a further one
-/// would be needed. Counts one Solve.
-pub fn solve<L: Ledger>(
-    alloc: Global,
-    gates: &Gates,
-    clauses: &Clauses,
-    budget: u32,
-    steps: &mut Steps<L>,
-) -> Result<Answer, NoMemory>
-    requires encoded { clauses.now ≡ formula_of gates.now }
-    requires some { 0 < budget }
-    requires most { budget ≤ 1000000 }
-    ensures ticked { steps.new ≡ after Solve steps.old }
-    ensures answers { IfOk result (Answers gates.now budget) }
-{
-    steps.tick(Kind::Solve);
-    // what the answer says of the clauses, said of the gates
-    encoding_law();
-    step_law();
-    least_bits_law();
-    let answer = search(alloc, clauses, gates.inputs(), budget)?;
-    Ok(answer)
 }

@@ -9,9 +9,9 @@ ghost use Rattle.gv_solver.specs.Clash.{Derived, IsClash};
 ghost use Rattle.gv_solver.specs.Replay.{replay_by};
 ghost use Rattle.gv_solver.specs.Rests.{reasons};
 
-use crate::marks::{is_on, mark, marks_off};
+use crate::marks::{mark, marks_off};
 use gv_base::NoMemory;
-use gv_logic::{Clause, Lit};
+use gv_logic::{Clause, Lit, is_on};
 use gv_refute::{Hints, Step};
 use gv_trail::Trail;
 use std::alloc::Global;

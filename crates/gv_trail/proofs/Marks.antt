@@ -4,9 +4,9 @@ use Rattle.std.proofs.lemmas.List.{length-replicate}
 use Rattle.std.specs.Prelude.{slice_set, replicate}
 use Rattle.std.proofs.Math.ListN.{length-set}
 use Rattle.gv_logic.specs.Literals.{opposite}
-use Rattle.gv_logic.specs.Partial.{is_true}
+use Rattle.gv_logic.specs.Partial.{is_true, trues}
 use Rattle.gv_trail.specs.Entries.{Entry, made_true, front_to}
-use Rattle.gv_trail.specs.Marks.{trues, AreFresh}
+use Rattle.gv_trail.specs.Marks.{AreFresh}
 use Rattle.gv_trail.proofs.Proper.{set_back}
 
 pub made_true-append : (on : List Bool) (es : List Entry) (e : Entry) → made_true on (es ++ e ∷ []) ≡ slice_set (made_true on es) e.lit true
@@ -31,12 +31,12 @@ trues_set (false ∷ bs) zero lt e = refl
 trues_set (true ∷ bs) (suc i) lt e = let h = trues_set bs i (omega arith) e in omega arith
 trues_set (false ∷ bs) (suc i) lt e = trues_set bs i (omega arith) e
 
-trues-le : (on : List Bool) → trues on ≤ length on
+pub trues-le : (on : List Bool) → trues on ≤ length on
 trues-le [] = omega arith
 trues-le (true ∷ bs) = omega (arith, trues-le bs)
 trues-le (false ∷ bs) = omega (arith, trues-le bs)
 
-trues_replicate : (n : ℕ) → trues (replicate n false) ≡ 0
+pub trues_replicate : (n : ℕ) → trues (replicate n false) ≡ 0
 trues_replicate zero = refl
 trues_replicate (suc n) = trues_replicate n
 

@@ -1,4 +1,4 @@
--- The entries that literals and the causes of their variables make.
+-- The entries that literals and the causes of their variables make: words of the trail's own fields.
 use Rattle.std.specs.Prelude.{ℕ, ◌/◌, None, List, map, slice_index_or}
 use Rattle.gv_trail.specs.declared.cause.Cause.{Cause}
 use Rattle.gv_trail.specs.Entries.{Entry}

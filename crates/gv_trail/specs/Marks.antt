@@ -1,14 +1,8 @@
--- Which literals are marked as true.
-use Rattle.std.specs.Prelude.{◌≡◌, ◌<◌, ◌+◌, ℕ, Bool, true, false, List, [], ◌∷◌, length, slice_set}
+-- Which literals are marked as true: a word of the trail's own fields.
+use Rattle.std.specs.Prelude.{◌≡◌, ◌<◌, Bool, true, false, List, [], ◌∷◌, length, slice_set}
 use Rattle.gv_logic.specs.Literals.{opposite}
 use Rattle.gv_logic.specs.Partial.{is_true}
 use Rattle.gv_trail.specs.Entries.{Entry}
-
--- how many literals are true
-abbrev pub trues : List Bool → ℕ
-trues [] = 0
-trues (true ∷ bs) = trues bs + 1
-trues (false ∷ bs) = trues bs
 
 -- each literal is in range, and its variable wasn't assigned before
 abbrev pub AreFresh : List Bool → List Entry → Type 0

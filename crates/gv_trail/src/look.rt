@@ -1,10 +1,10 @@
 //! A look at one clause under a partial assignment: O(its length).
 
-ghost use Rattle.std.specs.Prelude.{◌≡◌, None};
-ghost use Rattle.gv_logic.specs.Partial.{is_true};
-ghost use Rattle.gv_trail.specs.Looks.{look_after};
+ghost use Rattle.std.specs.Prelude.{◌≡◌, None, IfSome};
+ghost use Rattle.gv_logic.specs.Partial.{Has};
+ghost use Rattle.gv_trail.specs.Looks.{look_after, open_other, other_than, IsPicked};
 
-use gv_logic::Lit;
+use gv_logic::{Lit, is_on};
 
 /// What stands in the way of a clause's being neither false nor unit.
 #[derive(Clone, Copy, Drop)]
@@ -12,16 +12,6 @@ pub(crate) enum Look {
     Quiet,
     AllFalse,
     OneLeft(Lit),
-}
-
-/// Whether the literal is true; one that names no variable is not.
-pub(crate) fn is_on(on: &[bool], lit: Lit) -> bool
-    ensures { result ≡ is_true on.now lit }
-{
-    match on.get(lit.0 as usize) {
-        Some(value) => *value,
-        None => false,
-    }
 }
 
 pub(crate) fn look_at(on: &[bool], lits: &[Lit]) -> Look
@@ -45,4 +35,78 @@ pub(crate) fn look_at(on: &[bool], lits: &[Lit]) -> Look
         None => Look::AllFalse,
         Some(lit) => Look::OneLeft(lit),
     }
+}
+
+/// The first of the literals that isn't false, but for one.
+pub(crate) fn find_open(on: &[bool], but: Lit, lits: &[Lit]) -> Option<Lit>
+    ensures { result ≡ open_other on.now but lits.now }
+{
+    for lit in lits {
+        if *lit == but {
+            continue;
+        }
+        if !is_on(on, lit.opposite()) {
+            return Some(*lit);
+        }
+    }
+    None
+}
+
+// The first of the literals, but for one.
+fn find_other(but: Lit, lits: &[Lit]) -> Option<Lit>
+    ensures { result ≡ other_than but lits.now }
+{
+    for lit in lits {
+        if *lit != but {
+            return Some(*lit);
+        }
+    }
+    None
+}
+
+/// Two literals that differ; where they are free, neither is false.
+#[derive(Clone, Copy, Drop)]
+pub(crate) struct Picked {
+    pub(crate) first: Lit,
+    pub(crate) second: Lit,
+    pub(crate) free: bool,
+}
+
+// The literals to watch, the one that is found first being one of them.
+fn pick_beside(on: &[bool], lits: &[Lit], first: Lit) -> Option<Picked>
+    requires { Has first lits.now }
+    ensures { IfSome result (IsPicked on.now lits.now) }
+{
+    match find_open(on, first, lits) {
+        Some(open) => match find_open(on, open, lits) {
+            Some(second) => Some(Picked {
+                first: open,
+                second,
+                free: true,
+            }),
+            None => Some(Picked {
+                first: open,
+                second: first,
+                free: false,
+            }),
+        },
+        None => match find_other(first, lits) {
+            Some(second) => Some(Picked {
+                first,
+                second,
+                free: false,
+            }),
+            None => None,
+        },
+    }
+}
+
+/// Two literals to watch, those that aren't false first; none where no two differ.
+pub(crate) fn pick(on: &[bool], lits: &[Lit]) -> Option<Picked>
+    ensures { IfSome result (IsPicked on.now lits.now) }
+{
+    if lits.is_empty() {
+        return None;
+    }
+    pick_beside(on, lits, lits[0])
 }

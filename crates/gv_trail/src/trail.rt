@@ -1,20 +1,24 @@
 //! The trail itself.
 
-ghost use Rattle.std.specs.Prelude.{◌≡◌, ◌+◌, ◌*◌, ◌<◌, ◌≤◌, ◌^◌, ◌++◌, ◌∷◌, [], true, false, None, length, IfOk, OnOk, OnErr, Option};
+ghost use Rattle.std.specs.Prelude.{◌≡◌, ◌+◌, ◌*◌, ◌<◌, ◌≤◌, ◌^◌, ◌++◌, ◌∷◌, [], true, false, None, length, IsTrue, ◌↔◌, IfOk, OnOk, OnErr, Option};
 ghost use Rattle.gv_logic.specs.Literals.{opposite};
 ghost use Rattle.gv_logic.specs.Formulas.{Formula, InRange};
 ghost use Rattle.gv_logic.specs.Partial.{is_true};
 ghost use Rattle.gv_trail.specs.Entries.{assignment, lits_of, reason_of, level_of, value_of, front_to, level_after};
 ghost use Rattle.gv_trail.specs.Derived.{IsTrail, front};
+ghost use Rattle.gv_trail.specs.Links.{IsLinked, requeued, taken};
+ghost use Rattle.gv_trail.specs.Looks.{open_other};
 ghost use Rattle.gv_trail.specs.Told.{Tells, Propagates};
-ghost use Rattle.gv_trail.specs.Sweeps.{Sweeps};
+ghost use Rattle.gv_trail.specs.Watching.{lit_at};
+ghost use Rattle.gv_trail.specs.Follows.{relinked, watching, holding_apart, advanced, sure_after, entry_at, kept_if, Waits, Holds, Looks, Forces, Drains, Follows, Goes, Settles, Sweeps};
 
 use crate::Propagation;
 use crate::cause::{Cause, cause_of, take_back};
-use crate::look::{Look, is_on, look_at};
+use crate::look::{Look, Picked, find_open, look_at, pick};
 use crate::propagation::Sweep;
+use crate::watches::{Watches, sibling};
 use gv_base::NoMemory;
-use gv_logic::{Clause, Clauses, Lit};
+use gv_logic::{Clause, Clauses, Lit, is_on};
 use std::alloc::Global;
 use std::marker::Model;
 
@@ -28,6 +32,12 @@ pub struct Trail {
     // by variable; those of variables that aren't assigned mean nothing
     causes: Vec<Cause>,
     level: u32,
+    watches: Watches,
+    // the clauses without two literals that differ
+    apart: Vec<u32>,
+    // how many literals were followed, and how many of these at their own level
+    seen: usize,
+    sure: usize,
 }
 
 impl Model for Trail {
@@ -44,30 +54,19 @@ impl Model for Trail {
 
 impl Trail {
     /// A trail over these clauses with nothing assigned, at level 0. It has room for fewer than
-    /// `2^31` variables.
+    /// `2^31` variables and clauses.
     pub fn new(alloc: Global, clauses: &Clauses) -> Result<Trail, NoMemory>
         ensures variables { IfOk result (λ trail. trail.variables ≡ clauses.now.variables) }
         ensures entries { IfOk result (λ trail. trail.entries ≡ []) }
         ensures level { IfOk result (λ trail. trail.level ≡ 0) }
         ensures over { IfOk result (IsTrail clauses.now) }
     {
-        let variables = clauses.variables() as usize;
-        if 2 * variables > u32::MAX as usize {
-            return Err(NoMemory);
+        let mut trail = Trail::empty(alloc, clauses.variables())?;
+        let count = clauses.items().len() as u32;
+        for number in 0..count {
+            trail.hold(clauses, number)?;
         }
-        let cause = Cause {
-            reason: None,
-            level: 0,
-        };
-        let on = vec![in alloc; false; 2 * variables]?;
-        let causes = vec![in alloc; cause; variables]?;
-        let lits = Vec::with_capacity(alloc, 2 * variables)?;
-        Ok(Trail {
-            on,
-            lits,
-            causes,
-            level: 0,
-        })
+        Ok(trail)
     }
 
     /// The last of the clauses, which has this number, takes part from now on. What is assigned
@@ -80,30 +79,7 @@ impl Trail {
         ensures over { OnOk result (IsTrail clauses.now self.new) }
         ensures err { OnErr result (self.new ≡ self.old) }
     {
-        Ok(())
-    }
-
-    // Makes a literal true.
-    fn assign(&mut self, lit: Lit, reason: Option<u32>, level: u32)
-        requires range { lit < 2 * self.old.variables }
-        requires free { is_true (assignment self.old) lit ≡ false }
-        requires other { is_true (assignment self.old) (opposite lit) ≡ false }
-        requires level { level ≡ level_after reason self.old.level }
-        ensures { self.new ≡ record { variables = self.old.variables; entries = self.old.entries ++ (record { lit = lit; reason = reason; level = level }) ∷ []; level = level } }
-    {
-        self.level = level;
-        self.on[lit.0 as usize] = true;
-        self.causes[lit.0 as usize / 2] = Cause { reason, level };
-        match self.lits.push(lit) {
-            Ok(()) => {}
-            Err(_) => unreachable!(),
-        }
-    }
-
-    fn next_level(&self) -> u32
-        ensures { result ≡ self.now.level + 1 }
-    {
-        self.level + 1
+        self.hold(clauses, number)
     }
 
     /// Makes a literal true at a new level. Its variable isn't assigned.
@@ -119,32 +95,6 @@ impl Trail {
         self.assign(lit, None, level);
     }
 
-    // Goes once over the clauses, and assigns what each asks for at its turn.
-    fn sweep(&mut self, clauses: &[Clause]) -> Sweep
-        requires few { length clauses.now < 2 ^ 32 }
-        requires range { InRange (2 * self.old.variables) clauses.now }
-        ensures adds { Propagates clauses.now self.old self.new }
-        ensures says { Sweeps clauses.now self.old self.new result }
-    {
-        let level = self.level;
-        let mut assigned = false;
-        for (number, clause) in clauses.iter().enumerate() {
-            match look_at(&self.on, clause.items()) {
-                Look::Quiet => {}
-                Look::AllFalse => return Sweep::Falsified(number as u32),
-                Look::OneLeft(lit) => {
-                    self.assign(lit, Some(number as u32), level);
-                    assigned = true;
-                }
-            }
-        }
-        if assigned {
-            Sweep::Assigned
-        } else {
-            Sweep::Nothing
-        }
-    }
-
     /// Assigns what the clauses ask for, until none is unit or one is false.
     pub fn propagate(&mut self, clauses: &Clauses) -> Propagation
         requires { IsTrail clauses.now self.old }
@@ -152,8 +102,14 @@ impl Trail {
         ensures adds { Propagates clauses.now.clauses self.old self.new }
         ensures over { IsTrail clauses.now self.new }
     {
-        'sweeps: loop {
-            match self.sweep(clauses.items()) {
+        'rounds: loop {
+            if self.some_unseen() {
+                if let Some(clause) = self.follow(clauses) {
+                    return Propagation::Conflict { clause };
+                }
+                continue 'rounds;
+            }
+            match self.sweep(clauses) {
                 Sweep::Nothing => return Propagation::Fixed,
                 Sweep::Falsified(clause) => return Propagation::Conflict { clause },
                 Sweep::Assigned => {}
@@ -172,6 +128,8 @@ impl Trail {
         let kept = take_back(&mut self.on, &self.lits, &self.causes, level);
         self.lits.truncate(kept);
         self.level = level;
+        self.sure = self.sure.min(self.lits.len());
+        self.seen = self.sure;
     }
 
     /// Whether the literal is true; none where its variable isn't assigned.
@@ -221,4 +179,329 @@ impl Trail {
             Some(_) => Some(cause_of(&self.causes, lit).level),
         }
     }
+}
+
+// How the clauses that are watched are followed.
+impl Trail {
+    // A trail over no clauses.
+    fn empty(alloc: Global, variables: u32) -> Result<Trail, NoMemory>
+        ensures variables { IfOk result (λ trail. trail.variables ≡ variables) }
+        ensures entries { IfOk result (λ trail. trail.entries ≡ []) }
+        ensures level { IfOk result (λ trail. trail.level ≡ 0) }
+        ensures over { IfOk result (IsTrail (record { variables = variables; clauses = [] })) }
+    {
+        let variables = variables as usize;
+        if 2 * variables > u32::MAX as usize {
+            return Err(NoMemory);
+        }
+        let cause = Cause {
+            reason: None,
+            level: 0,
+        };
+        let on = vec![in alloc; false; 2 * variables]?;
+        let causes = vec![in alloc; cause; variables]?;
+        let lits = Vec::with_capacity(alloc, 2 * variables)?;
+        let watches = Watches::new(alloc, 2 * variables)?;
+        Ok(Trail {
+            on,
+            lits,
+            causes,
+            level: 0,
+            watches,
+            apart: Vec::new(alloc),
+            seen: 0,
+            sure: 0,
+        })
+    }
+
+    // The next of the clauses takes part from now on.
+    fn hold(&mut self, clauses: &Clauses, number: u32) -> Result<(), NoMemory>
+        requires there { number < length clauses.now.clauses }
+        requires over { IsTrail (front number clauses.now) self.old }
+        ensures ok { OnOk result (Holds clauses.now number self.old self.new) }
+        ensures err { OnErr result (self.new ≡ self.old) }
+    {
+        if number > u32::MAX / 2 - 1 {
+            return Err(NoMemory);
+        }
+        let items = clauses.items();
+        match pick(&self.on, items[number as usize].items()) {
+            Some(picked) => self.watch(picked),
+            None => self.keep_apart(number),
+        }
+    }
+
+    // Two watches of the next clause.
+    fn watch(&mut self, picked: Picked) -> Result<(), NoMemory>
+        requires many { length self.old.watched.links.nodes + 2 < 2 ^ 32 }
+        requires first { picked.first < length self.old.watched.links.chains }
+        requires second { picked.second < length self.old.watched.links.chains }
+        requires links { IsLinked self.old.watched.links }
+        ensures ok { OnOk result (self.new ≡ watching self.old picked) }
+        ensures err { OnErr result (self.new ≡ self.old) }
+    {
+        self.watches.add_both(picked.first, picked.second)?;
+        self.seen = kept_if(picked.free, self.seen);
+        self.sure = kept_if(picked.free, self.sure);
+        Ok(())
+    }
+
+    // The next clause is held apart.
+    fn keep_apart(&mut self, number: u32) -> Result<(), NoMemory>
+        ensures ok { OnOk result (self.new ≡ holding_apart self.old number) }
+        ensures err { OnErr result (self.new ≡ self.old) }
+    {
+        self.apart.reserve(1)?;
+        self.watches.skip_both()?;
+        self.apart.push_reserved(number);
+        Ok(())
+    }
+
+    // Makes a literal true.
+    fn assign(&mut self, lit: Lit, reason: Option<u32>, level: u32)
+        requires range { lit < 2 * self.old.variables }
+        requires free { is_true (assignment self.old) lit ≡ false }
+        requires other { is_true (assignment self.old) (opposite lit) ≡ false }
+        requires level { level ≡ level_after reason self.old.level }
+        ensures { self.new ≡ record { variables = self.old.variables; entries = self.old.entries ++ (record { lit = lit; reason = reason; level = level }) ∷ []; level = level; watched = self.old.watched } }
+    {
+        self.level = level;
+        self.on[lit.0 as usize] = true;
+        self.causes[lit.0 as usize / 2] = Cause { reason, level };
+        match self.lits.push(lit) {
+            Ok(()) => {}
+            Err(_) => unreachable!(),
+        }
+    }
+
+    fn next_level(&self) -> u32
+        ensures { result ≡ self.now.level + 1 }
+    {
+        self.level + 1
+    }
+
+    // Puts the first watch that waits on a literal.
+    fn requeue(&mut self, to: Lit)
+        requires some { 0 < Waits self.old }
+        requires to { to < length self.old.watched.links.chains }
+        requires links { IsLinked self.old.watched.links }
+        requires few { length self.old.watched.links.nodes < 2 ^ 32 }
+        ensures { self.new ≡ relinked self.old (requeued self.old.watched.links to) }
+    {
+        self.watches.requeue(to);
+    }
+
+    // Lets the watches on a literal wait.
+    fn take(&mut self, lit: Lit)
+        requires lit { lit < length self.old.watched.links.chains }
+        ensures { self.new ≡ relinked self.old (taken self.old.watched.links lit) }
+    {
+        self.watches.take(lit);
+    }
+
+    fn some_wait(&self) -> bool
+        ensures { IsTrue result ↔ 0 < Waits self.now }
+    {
+        self.watches.waiting.count > 0
+    }
+
+    fn first_waiting(&self) -> u32
+        ensures { result ≡ self.now.watched.links.waiting.first }
+    {
+        self.watches.waiting.first
+    }
+
+    // The literal that a watch is on.
+    fn lit_of(&self, watch: u32) -> Lit
+        ensures { result ≡ lit_at self.now.watched.links watch }
+    {
+        self.watches.lit_of(watch)
+    }
+
+    fn is_on(&self, lit: Lit) -> bool
+        ensures { result ≡ is_true (assignment self.now) lit }
+    {
+        is_on(&self.on, lit)
+    }
+
+    fn find_open(&self, but: Lit, lits: &[Lit]) -> Option<Lit>
+        ensures { result ≡ open_other (assignment self.now) but lits.now }
+    {
+        find_open(&self.on, but, lits)
+    }
+
+    // The first watch that waits stays on its literal, and the other becomes true, unless it is
+    // false.
+    fn force(&mut self, lit: Lit, other: Lit, number: u32) -> Option<u32>
+        requires some { 0 < Waits self.old }
+        requires lit { lit < length self.old.watched.links.chains }
+        requires links { IsLinked self.old.watched.links }
+        requires few { length self.old.watched.links.nodes < 2 ^ 32 }
+        requires range { other < 2 * self.old.variables }
+        requires free { is_true (assignment self.old) other ≡ false }
+        ensures { Forces lit other number self.old self.new result }
+    {
+        if self.is_on(other.opposite()) {
+            return Some(number);
+        }
+        let level = self.level;
+        self.requeue(lit);
+        self.assign(other, Some(number), level);
+        None
+    }
+
+    // Looks at the clause of the first watch that waits, and assigns what it asks for. Says which
+    // clause is false.
+    fn look(&mut self, clauses: &Clauses) -> Option<u32>
+        requires over { IsTrail clauses.now self.old }
+        requires some { 0 < Waits self.old }
+        ensures { Looks clauses.now self.old self.new result }
+    {
+        let items = clauses.items();
+        let watch = self.first_waiting();
+        let lit = self.lit_of(watch);
+        let other = self.lit_of(sibling(watch));
+        if !self.is_on(lit.opposite()) {
+            self.requeue(lit);
+            return None;
+        }
+        if self.is_on(other) {
+            self.requeue(lit);
+            return None;
+        }
+        let number = watch / 2;
+        match self.find_open(other, items[number as usize].items()) {
+            Some(to) => {
+                self.requeue(to);
+                None
+            }
+            None => self.force(lit, other, number),
+        }
+    }
+
+    // Looks at the clauses of all watches that wait.
+    fn drain(&mut self, clauses: &Clauses) -> Option<u32>
+        requires { IsTrail clauses.now self.old }
+        ensures { Drains clauses.now self.old self.new result }
+    {
+        'waiting: while self.some_wait() {
+            if let Some(clause) = self.look(clauses) {
+                return Some(clause);
+            }
+        }
+        None
+    }
+
+    // The next literal to follow.
+    fn next_lit(&self) -> Lit
+        requires { self.now.watched.seen < length self.now.entries }
+        ensures { result ≡ (entry_at self.now.entries self.now.watched.seen).lit }
+    {
+        self.lits[self.seen]
+    }
+
+    fn sure_after(&self) -> usize
+        requires { self.now.watched.seen < length self.now.entries }
+        ensures { result ≡ sure_after self.now }
+    {
+        if self.sure != self.seen {
+            return self.sure;
+        }
+        if cause_of(&self.causes, self.lits[self.seen]).level != self.level {
+            return self.sure;
+        }
+        self.sure + 1
+    }
+
+    // One more literal was followed.
+    fn advance(&mut self)
+        requires { self.old.watched.seen < length self.old.entries }
+        ensures { self.new ≡ advanced self.old }
+    {
+        self.sure = self.sure_after();
+        self.seen += 1;
+    }
+
+    // Looks at the clauses that watch the opposite of the next literal.
+    fn follow(&mut self, clauses: &Clauses) -> Option<u32>
+        requires over { IsTrail clauses.now self.old }
+        requires some { self.old.watched.seen < length self.old.entries }
+        ensures { Follows clauses.now self.old self.new result }
+    {
+        if let Some(clause) = self.drain(clauses) {
+            return Some(clause);
+        }
+        let lit = self.next_lit();
+        self.take(lit.opposite());
+        if let Some(clause) = self.drain(clauses) {
+            return Some(clause);
+        }
+        self.advance();
+        None
+    }
+
+    // Looks at a clause, and assigns what it asks for.
+    fn settle(&mut self, clauses: &[Clause], number: u32) -> Sweep
+        requires { InRange (2 * self.old.variables) clauses.now }
+        ensures adds { Propagates clauses.now self.old self.new }
+        ensures watched { self.new.watched ≡ self.old.watched }
+        ensures settles { Settles clauses.now number self.old self.new result }
+    {
+        let level = self.level;
+        match clauses.get(number as usize) {
+            None => Sweep::Nothing,
+            Some(clause) => match look_at(&self.on, clause.items()) {
+                Look::Quiet => Sweep::Nothing,
+                Look::AllFalse => Sweep::Falsified(number),
+                Look::OneLeft(lit) => {
+                    self.assign(lit, Some(number), level);
+                    Sweep::Assigned
+                }
+            },
+        }
+    }
+
+    fn apart(&self) -> &[u32]
+        ensures { result.now ≡ self.now.watched.apart }
+    {
+        &self.apart
+    }
+
+    // Goes once over the clauses that are held apart, and assigns what each asks for at its turn.
+    fn sweep(&mut self, clauses: &Clauses) -> Sweep
+        requires { IsTrail clauses.now self.old }
+        ensures goes { Goes clauses.now self.old self.new }
+        ensures watched { self.new.watched ≡ self.old.watched }
+        ensures says { Sweeps clauses.now.clauses self.old self.new result }
+    {
+        let items = clauses.items();
+        let mut assigned = false;
+        let mut at = 0;
+        while at < self.apart().len() {
+            let number = self.apart()[at];
+            match self.settle(items, number) {
+                Sweep::Nothing => {}
+                Sweep::Falsified(clause) => return Sweep::Falsified(clause),
+                Sweep::Assigned => assigned = true,
+            }
+            at += 1;
+        }
+        if assigned {
+            Sweep::Assigned
+        } else {
+            Sweep::Nothing
+        }
+    }
+
+    fn some_unseen(&self) -> bool
+        ensures { IsTrue result ↔ self.now.watched.seen < length self.now.entries }
+    {
+        self.seen < self.lits.len()
+    }
+}
+
+fn kept_if(free: bool, count: usize) -> usize
+    ensures { result ≡ kept_if free count }
+{
+    if free { count } else { 0 }
 }

@@ -1,4 +1,6 @@
-use Rattle.std.proofs.Common.{◌+◌, [], arith}
+use Rattle.std.proofs.Common.{◌+◌, ◌∙◌, [], arith}
+use Rattle.gv_trail.specs.declared.propagation.Propagation.TheVariants.{Conflict}
+use Rattle.gv_solver.proofs.Late.{late_start}
 use Rattle.gv_solver.proofs.Down.{search_start, searched, ready_same}
 use Rattle.gv_solver.proofs.search.descend.Goals as goal
 
@@ -18,3 +20,6 @@ loop-input-init c = record {
 
 pub returns-in-Conflict-step_down-clause-searched : goal.returns-in-Conflict-step_down-clause-searched
 returns-in-Conflict-step_down-clause-searched c = searched c.args.clauses.now.clauses (c.loop-input.input + 1) c.args.inputs c.step_down.new.trail (omega (arith, c.loop-input-test.true)) c.step_down.ensures.search
+
+pub returns-in-Conflict-clause-late : goal.returns-in-Conflict-clause-late
+returns-in-Conflict-clause-late c = late_start c.args.clauses.now.clauses c.settle.new.trail (Conflict c.in-Conflict.clause) (c.settle.ensures.level ∙ c.rewind.ensures.level)

@@ -1,6 +1,7 @@
 use Rattle.gv_logic.specs.Encoding.{formula_of}
-use Rattle.gv_solver.specs.Answers.{IsAnswer}
-use Rattle.gv_solver.proofs.Gates.{Laws, answers}
+use Rattle.gv_solver.specs.Found.{IsAnswer}
+use Rattle.gv_solver.proofs.Backing.{Laws}
+use Rattle.gv_solver.proofs.Gates.{answers}
 use Rattle.gv_solver.proofs.solver.solve.Goals as goal
 
 pub returns-clause-answers : goal.returns-clause-answers
