@@ -1,0 +1,96 @@
+//! The numbers of records by their queries, in an ordered tree.
+//!
+//! A look-up takes no memory and costs O(log n) comparisons of queries for n distinct ones; an addition costs as much,
+//! and copies a query the first time that it comes. Whoever writes a file picks its queries, and a hash with a fixed seed
+//! would let him pick such as all collide; an order has no worse case than this.
+ghost use Rattle.std.specs.Prelude.{◌≡◌, ◌++◌, ◌∷◌, [], ℕ, List, if◌then◌else◌, OnOk, OnErr};
+ghost use Rattle.std.specs.Str.{bytes_eq};
+ghost use Rattle.gv_cert.specs.Indexes.{numbers_at};
+
+use gv_base::NoMemory;
+use std::alloc::Global;
+use std::collections::BTreeMap;
+use std::marker::Model;
+
+/// Numbers of records, from 0.
+#[derive(Drop)]
+pub(crate) struct Numbers {
+    items: Vec<u32>,
+}
+
+impl Model for Numbers {
+    ghost use Rattle.std.specs.Prelude.{List, ℕ};
+
+    ghost Value = { List ℕ };
+
+    ghost view = { λ p. p.items.items };
+}
+
+impl Numbers {
+    fn new(alloc: Global) -> Numbers
+        ensures { result ≡ [] }
+    {
+        Numbers {
+            items: Vec::new(alloc),
+        }
+    }
+
+    fn add(&mut self, number: u32) -> Result<(), NoMemory>
+        ensures ok { OnOk result (self.new ≡ self.old ++ number ∷ []) }
+        ensures err { OnErr result (self.new ≡ self.old) }
+    {
+        self.items.push(number)?;
+        Ok(())
+    }
+
+    fn items(&self) -> &[u32]
+        ensures { result.now ≡ self.now }
+    {
+        &self.items
+    }
+}
+
+/// The numbers of the records of each query.
+#[derive(Drop)]
+pub(crate) struct Index {
+    alloc: Global,
+    map: BTreeMap<Vec<u8>, Numbers>,
+}
+
+impl Index {
+    pub(crate) fn new(alloc: Global) -> Index
+        ensures { (query : List ℕ) → numbers_at result query ≡ [] }
+    {
+        Index {
+            alloc,
+            map: BTreeMap::new(alloc),
+        }
+    }
+
+    /// The numbers at a query.
+    pub(crate) fn at(&self, query: &[u8]) -> &[u32]
+        ensures { result.now ≡ numbers_at self.now query.now }
+    {
+        match self.map.get(query) {
+            Some(numbers) => numbers.items(),
+            None => &[],
+        }
+    }
+
+    /// Adds a number at a query. After an error the numbers are as before.
+    pub(crate) fn add(&mut self, query: &[u8], number: u32) -> Result<(), NoMemory>
+        ensures ok { OnOk result ((q : List ℕ) → numbers_at self.new q ≡ (if bytes_eq q query.now then numbers_at self.old q ++ number ∷ [] else numbers_at self.old q)) }
+        ensures err { OnErr result ((q : List ℕ) → numbers_at self.new q ≡ numbers_at self.old q) }
+    {
+        match self.map.get_mut(query) {
+            Some(numbers) => numbers.add(number)?,
+            None => {
+                let mut numbers = Numbers::new(self.alloc);
+                numbers.add(number)?;
+                let key = Vec::from_slice(self.alloc, query)?;
+                self.map.insert(key, numbers)?;
+            }
+        }
+        Ok(())
+    }
+}
