@@ -1,5 +1,5 @@
 -- A walk over the cases of a repository: what one more package, the two levels and one more profile add.
-use Rattle.std.proofs.Common.{◌≡◌, ℕ, ◌+◌, ◌<◌, ◌≤◌, List, [], ◌∷◌, ◌++◌, Some, None, length, get_or, drop, drop-cons, add-one, refl, ap, ◌∙◌, sym, append-nil}
+use Rattle.std.proofs.Common.{◌≡◌, ℕ, ◌+◌, ◌<◌, ◌≤◌, List, [], ◌∷◌, ◌++◌, Some, None, length, get_or, drop, drop-cons, add-one, refl, ap, ◌∙◌, sym, append_assoc, append-nil}
 use Rattle.std.proofs.Math.ListN.{drop_of_length-le}
 use Rattle.std.specs.Prelude.{Option, fold, flat_map, filter_map}
 use Rattle.std.specs.List.{cons_option}
@@ -13,6 +13,8 @@ use Rattle.gvis.specs.declared.repo.Member.{Member}
 use Rattle.gvis.specs.declared.repo.Repo.{Repo}
 use Rattle.gvis.specs.Cases.{Case, cases_at, cases_in}
 use Rattle.gvis.specs.Pairs.{paired}
+use Rattle.gvis.specs.RepoReports.{with_report}
+use Rattle.gv_report.specs.declared.report.Report.{Report}
 
 none_paired : (ps : List Pkg) → paired ps [] ≡ []
 none_paired [] = refl
@@ -67,3 +69,11 @@ module _ {A B : Type 0} (put : B → A → B) (of : Case → List A) where
       ∙ ap (fold put kept) (sym (flat_map-append of (of_profile p) later))
       ∙ ap (λ x. fold put kept (flat_map of (flat_map of_profile x))) (sym rest)
       ∙ before
+
+-- reports that are added one by one are a list behind another
+added : (before rs : List Report) → fold with_report before rs ≡ before ++ rs
+added before [] = sym (append-nil before)
+added before (r ∷ rs) = added (before ++ r ∷ []) rs ∙ append_assoc before (r ∷ []) rs
+
+pub all_reports : (rs : List Report) → fold with_report [] rs ≡ rs
+all_reports rs = added [] rs

@@ -2,7 +2,7 @@
 use Rattle.std.proofs.Common.{◌≡◌, ℕ, List, ◌++◌, Some, None, refl, sym, ap, ◌∙◌}
 use Rattle.std.specs.Prelude.{Option, IfSome, flat_map, filter_map}
 use Rattle.gv_base.specs.FileMap.{FileMap}
-use Rattle.gvis.specs.declared.desc.DescLine.{DescLine}
+use Rattle.gv_profile.specs.declared.desc.DescLine.{DescLine}
 use Rattle.gvis.specs.declared.repo.Repo.{Repo}
 use Rattle.gvis.specs.declared.faults.LoadFault.{LoadFault}
 use Rattle.gvis.specs.declared.faults.LoadFault.TheVariants.{Tree, NotARepository, NotBuilt, NoMemory}

@@ -4,9 +4,9 @@ use Rattle.std.specs.Prelude.{Option, option_map}
 use Rattle.gv_expr.specs.Dep.{Dep}
 use Rattle.gv_expr.specs.Req.{Req}
 use Rattle.gv_facts.specs.declared.kinds.Class.{Class}
-use Rattle.gvis.specs.declared.report.Report.{Report}
+use Rattle.gv_report.specs.declared.report.Report.{Report}
 use Rattle.gv_entry.specs.Allowed.{is_failing}
-use Rattle.gvis.specs.Queries.{class_flags}
+use Rattle.gv_entry.specs.Queries.{class_flags}
 use Rattle.gvis.specs.Cases.{Case}
 use Rattle.gv_entry.specs.Least.{least}
 use Rattle.gvis.specs.Queries.{class_of, has_query, least_asked, required_of}

@@ -1,32 +1,15 @@
--- Lines, paths, names and small trees, by their computed values.
+-- Names, small files and small trees, by their computed values.
 use Rattle.std.proofs.Common.{◌≡◌, ℕ, List, [], ◌∷◌, ◌++◌, true, false, Some, None, refl}
 use Rattle.std.specs.Prelude.{map, codes, if◌then◌else◌}
 use Rattle.std.specs.Str.{bytes_eq}
 use Rattle.gv_base.specs.declared.tree.Found.{Found}
 use Rattle.gv_base.specs.declared.tree.Found.TheVariants.{File, Dir, Absent}
-use Rattle.gv_facts.specs.declared.kinds.Status.TheVariants.{Dev, Exp}
 use Rattle.gvis.specs.declared.faults.LoadFault.TheVariants.{NotARepository, NotBuilt}
-use Rattle.gvis.specs.Desc.{counted_lines}
-use Rattle.gvis.specs.Lines.{line_words}
+use Rattle.gv_profile.specs.Names.{profiles}
 use Rattle.gvis.specs.Look.{Look}
-use Rattle.gvis.specs.Paths.{is_relative, resolved}
 use Rattle.gvis.specs.Pf.{is_pf}
 use Rattle.gvis.specs.ProfileFiles.{is_good_eapi, masking, rules_in}
-use Rattle.gvis.specs.Reading.{layout, most_bytes, first_refusal}
-
-words : line_words (codes " a\tb#c #d e") ≡ codes "a" ∷ codes "b#c" ∷ []
-words = refl
-
--- a path that left the root has left it, also where it comes back
-ways : (resolved (codes "profiles") (codes "default/../base/") ≡ Some (codes "profiles/base"))
-    × (resolved (codes "profiles") (codes ".") ≡ Some (codes "profiles")) × (resolved (codes "profiles") (codes "..") ≡ None)
-    × (resolved (codes "profiles") (codes "../../profiles/base") ≡ None) × (is_relative (codes "a//b") ≡ false) × (is_relative (codes "/a") ≡ false)
-ways = (refl, refl, refl, refl, refl, refl)
-
--- a repeat of a good line doesn't count, whatever its status is; a bad line is no earlier line
-lines : counted_lines (codes "a b stabl" ++ 10 ∷ codes "a b dev # x" ++ 10 ∷ 10 ∷ codes "a b what" ++ 10 ∷ codes "a b/ exp")
-    ≡ record { line = 2; arch = codes "a"; path = codes "b"; status = Dev } ∷ record { line = 5; arch = codes "a"; path = codes "b/"; status = Exp } ∷ []
-lines = refl
+use Rattle.gvis.specs.Reading.{layout, first_refusal}
 
 names : map is_pf (codes "p_1-10" ∷ codes "p-01" ∷ codes "p-q-1" ∷ codes "p-1.2_rc-r3" ∷ codes "p" ∷ codes "p-1-2" ∷ codes "Manifest.gz" ∷ codes "p-1234567890123456789" ∷ codes "p 1-1" ∷ [])
     ≡ true ∷ true ∷ true ∷ true ∷ false ∷ false ∷ false ∷ false ∷ false ∷ []
@@ -54,23 +37,23 @@ abbrev tree : List ℕ → Found → List (List ℕ) → Look
 tree path found names = record { found = base path found; names = in_app names }
 
 nothing_more : first_refusal (tree [] Absent []) ≡ None
-unfolding first_refusal layout most_bytes
+unfolding first_refusal layout profiles
 nothing_more = refl
 
 no_desc : first_refusal (tree (codes "profiles/profiles.desc") Dir []) ≡ Some (NotARepository (codes "profiles/profiles.desc"))
-unfolding first_refusal layout most_bytes
+unfolding first_refusal layout profiles
 no_desc = refl
 
 no_categories : first_refusal (tree (codes "profiles/categories") Absent []) ≡ Some (NotARepository (codes "profiles/categories"))
-unfolding first_refusal layout most_bytes
+unfolding first_refusal layout profiles
 no_categories = refl
 
 parent : first_refusal (tree (codes "profiles/base/parent") (File []) (codes "Manifest.gz" ∷ [])) ≡ Some (NotBuilt (codes "profiles/base/parent"))
-unfolding first_refusal layout most_bytes
+unfolding first_refusal layout profiles
 parent = refl
 
 mask_folder : first_refusal (tree (codes "profiles/base/use.mask") Dir []) ≡ Some (NotBuilt (codes "profiles/base/use.mask"))
-unfolding first_refusal layout most_bytes
+unfolding first_refusal layout profiles
 mask_folder = refl
 
 -- a name that is no PF is passed over, whatever stands there, and the first package that asks for a USE flag is refused
@@ -79,5 +62,5 @@ asking p = if bytes_eq p (codes "metadata/md5-cache/app/b-1.2") then File (codes
 
 first_asking : first_refusal (record { found = asking; names = in_app (codes "a" ∷ codes "a-1" ∷ codes "b-1.2" ∷ []) })
     ≡ Some (NotBuilt (codes "metadata/md5-cache/app/b-1.2"))
-unfolding first_refusal layout most_bytes
+unfolding first_refusal layout profiles
 first_asking = refl

@@ -10,7 +10,7 @@ use Rattle.std.proofs.lemmas.Bool.{lt-ltb}
 use Rattle.std.proofs.lemmas.Option.{same_Some}
 use Rattle.std.proofs.lemmas.Map.Lookups.{exact_bytes}
 use Rattle.gv_base.specs.FileMap.{FileMap, byte_cmp}
-use Rattle.gv_base.specs.Outside.{found_at, found_as, IsLarge, HasAtMost}
+use Rattle.gv_base.specs.Outside.{found_at, found_as, most_file_bytes, IsLarge, HasAtMost}
 use Rattle.gv_base.specs.Listing.{is_folder}
 use Rattle.gv_base.specs.declared.tree.Found.{Found}
 use Rattle.gv_base.specs.declared.tree.Found.TheVariants.{File, Dir, Absent}
@@ -18,7 +18,7 @@ use Rattle.gvis.specs.declared.faults.LoadFault.TheVariants.{NotBuilt}
 use Rattle.gvis.specs.Agreement.{Agrees, Knows}
 use Rattle.gvis.specs.Known.{Known}
 use Rattle.gvis.specs.Look.{Look, IsTold, look_in}
-use Rattle.gvis.specs.Reading.{too_large, most_bytes}
+use Rattle.gvis.specs.Reading.{too_large}
 
 -- ---- a path of the tree
 pub told_found : (told : Option FileMap) (path : List ℕ) (found : Found) → IfSome told (λ m. found ≡ found_at m path) → IsTold told → found ≡ (look_in told).found path
@@ -26,18 +26,17 @@ unfolding look_in
 told_found None path found is told = cc
 told_found (Some m) path found is told = is
 
-pub small_file : (path : List ℕ) (found : Found) → HasAtMost 16777216 found → too_large path found ≡ None
-unfolding most_bytes
-small_file path (File bytes) most = let e : nat_lt 16777216 (length bytes) ≡ false = grind arith in rw e refl
+pub small_file : (path : List ℕ) (found : Found) → HasAtMost most_file_bytes found → too_large path found ≡ None
+small_file path (File bytes) most = let e : nat_lt most_file_bytes (length bytes) ≡ false = grind arith in rw e refl
 small_file path Dir most = refl
 small_file path Absent most = refl
 
-pub large_told : (told : Option FileMap) (path : List ℕ) → IfSome told (λ m. IsLarge 16777216 m path) → IsTold told → too_large path ((look_in told).found path) ≡ Some (NotBuilt path)
-unfolding look_in most_bytes
+pub large_told : (told : Option FileMap) (path : List ℕ) → IfSome told (λ m. IsLarge most_file_bytes m path) → IsTold told → too_large path ((look_in told).found path) ≡ Some (NotBuilt path)
+unfolding look_in
 large_told None path large told = cc
 large_told (Some m) path large told =
     let at : found_at m path ≡ File large.0 = ap (λ (o : Option (List ℕ)). found_as o (is_folder m path)) large.1 in
-    let more : nat_lt 16777216 (length large.0) ≡ true = lt-ltb _ _ large.2 in
+    let more : nat_lt most_file_bytes (length large.0) ≡ true = lt-ltb _ _ large.2 in
     rw (at, more) refl
 
 -- ---- a path that is known

@@ -11,7 +11,7 @@ use Rattle.gvis.specs.Repository.{package_in, repo_with, with_rules}
 use Rattle.gv_entry.specs.EntryRead.{entry_of}
 
 abbrev pub profile_of : ℕ → List ℕ → List ℕ → Status → List Rule → Profile
-profile_of line arch path status rules = with_rules (record { line = line; arch = arch; path = path; status = status }) rules
+profile_of line arch path status rules = with_rules (record { number = line; arch = arch; path = path; status = status }) rules
 
 -- the profile `amd64 base stable` with these rules
 abbrev pub base_with : List Rule → Profile

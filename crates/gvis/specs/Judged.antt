@@ -4,9 +4,8 @@ use Rattle.std.specs.Borrow.{Bor}
 use Rattle.gv_expr.specs.Dep.{Dep}
 use Rattle.gv_facts.specs.declared.pkg.Pkg.{Pkg}
 use Rattle.gv_entry.specs.Allowed.{Parent, assignment}
-use Rattle.gv_visible.specs.declared.candidates.Candidates.{Candidates}
-use Rattle.gv_visible.specs.Tells.{MayAsk, Tells}
-use Rattle.gv_visible.specs.Told.{level_of, pkgs_of, profile_of}
+use Rattle.gv_visible.specs.Tells.{AnswersVisible}
+use Rattle.gv_visible.specs.Told.{Candidates, level_of, pkgs_of, profile_of}
 use Rattle.gvis.specs.declared.assignment.Assignment.{Assignment}
 use Rattle.gvis.specs.declared.judged.Judged.{Judged}
 use Rattle.gvis.specs.Cases as cases
@@ -23,8 +22,7 @@ on_of a = assignment (parent_of a.judged.now) a.flags.now a.bits.now
 
 -- the candidates are the packages in the same context, few enough to be numbered, and their test tells which are visible
 pub record AreAround {F : Type 0} (pre : Bor Pkg → Type 0) (post : Bor Pkg → Bool → Type 0) (candidates : Candidates F) (j : Judged) : Type 0 where
-  pub callable : MayAsk pre
-  pub tells : Tells post (profile_of candidates) (level_of candidates)
+  pub test : AnswersVisible pre post (profile_of candidates) (level_of candidates)
   pub pkgs : pkgs_of candidates ≡ j.pkgs.now
   pub profile : profile_of candidates ≡ j.profile.now
   pub level : level_of candidates ≡ j.level
@@ -32,8 +30,7 @@ pub record AreAround {F : Type 0} (pre : Bor Pkg → Type 0) (post : Bor Pkg →
 
 -- the same of candidates alone
 pub record MayJudge {F : Type 0} (pre : Bor Pkg → Type 0) (post : Bor Pkg → Bool → Type 0) (candidates : Candidates F) : Type 0 where
-  pub callable : MayAsk pre
-  pub tells : Tells post (profile_of candidates) (level_of candidates)
+  pub test : AnswersVisible pre post (profile_of candidates) (level_of candidates)
   pub few : length (pkgs_of candidates) < 2 ^ 32
 
 -- what is found is the number of the first top item that fails

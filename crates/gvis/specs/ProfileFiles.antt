@@ -4,7 +4,7 @@ use Rattle.gv_base.specs.Order.{in_order}
 use Rattle.gv_version.specs.Names.{is_category, is_flag}
 use Rattle.gv_facts.specs.declared.rules.Rule.{Rule}
 use Rattle.gv_facts.specs.declared.rules.Effect.TheVariants.{Mask}
-use Rattle.gvis.specs.Lines.{line_words, file_lines}
+use Rattle.gv_profile.specs.Lines.{line_words, file_lines}
 
 -- a good line of `categories` has one word, a category
 abbrev pub category_in : List (List ℕ) → Option (List ℕ)

@@ -1,15 +1,15 @@
 -- The queries of a case, one for each class of its EAPI that can be judged, and what each of them asks.
-use Rattle.std.specs.Prelude.{ℕ, Bool, ◌&&◌, nat_lt, List, [], ◌++◌, Option, length, unwrap_or}
+use Rattle.std.specs.Prelude.{ℕ, Bool, ◌&&◌, nat_lt, List, [], Option, length, unwrap_or}
 use Rattle.std.specs.List.{list_any}
 use Rattle.std.specs.Option.{is_some}
-use Rattle.gv_expr.specs.Dep.{Dep, deps}
-use Rattle.gv_expr.specs.Mentioned.{dep_mentions, req_mentions}
-use Rattle.gv_expr.specs.Req.{Req, reqs}
+use Rattle.gv_expr.specs.Dep.{Dep}
+use Rattle.gv_expr.specs.Req.{Req}
 use Rattle.gv_facts.specs.declared.kinds.Class.{Class}
 use Rattle.gv_facts.specs.Classes.{has_class}
-use Rattle.gvis.specs.Classes.{classes, class_in}
-use Rattle.gv_entry.specs.Allowed.{Parent, is_failing, query_flags}
+use Rattle.gvis.specs.Classes.{classes}
+use Rattle.gv_entry.specs.Allowed.{is_failing}
 use Rattle.gv_entry.specs.Least.{least}
+use Rattle.gv_entry.specs.Queries.{class_flags, class_in}
 use Rattle.gvis.specs.Cases.{Case}
 
 -- whether the case has a query for the class: the EAPI has it, and neither it nor REQUIRED_USE is broken
@@ -21,10 +21,6 @@ required_of c = unwrap_or c.member.body.required []
 
 abbrev pub class_of : Case → Class → List Dep
 class_of c class = unwrap_or (class_in c.member.body class) []
-
--- the flags of the query of a class: REQUIRED_USE and the class mention them, and they are free
-abbrev pub class_flags : Parent → List Req → List Dep → List (List ℕ)
-class_flags c required class = query_flags c (req_mentions (reqs required) ++ dep_mentions (deps class))
 
 abbrev pub flags_of : Case → Class → List (List ℕ)
 flags_of c class = class_flags c.parent (required_of c) (class_of c class)

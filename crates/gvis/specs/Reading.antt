@@ -1,27 +1,25 @@
 -- What a scan reads, in order, and where it is refused.
 use Rattle.std.specs.Prelude.{ℕ, nat_lt, List, [], ◌∷◌, ◌++◌, ◌&&◌, is_some, if◌then◌else◌, Option, Some, None, length, filter, map, flat_map, codes}
+use Rattle.gv_base.specs.Outside.{most_file_bytes}
 use Rattle.gv_base.specs.declared.tree.Found.{Found}
 use Rattle.gv_base.specs.declared.tree.Found.TheVariants.{File, Dir, Absent}
-use Rattle.gvis.specs.declared.desc.DescLine.{DescLine}
+use Rattle.gv_profile.specs.declared.desc.DescLine.{DescLine}
 use Rattle.gv_entry.specs.declared.entry.Entry.{Entry}
 use Rattle.gvis.specs.declared.faults.LoadFault.{LoadFault}
 use Rattle.gvis.specs.declared.faults.LoadFault.TheVariants.{NotARepository, NotBuilt}
 use Rattle.gvis.specs.declared.layout.Layout.{Layout}
 use Rattle.gv_entry.specs.EntryRead.{entry_of}
 use Rattle.gvis.specs.Look.{Look}
-use Rattle.gvis.specs.Paths.{within, resolved}
+use Rattle.gv_profile.specs.Desc.{desc_read}
+use Rattle.gv_profile.specs.Paths.{within}
+use Rattle.gv_profile.specs.Walk.{line_dir}
 use Rattle.gvis.specs.Pf.{is_pf}
-use Rattle.gvis.specs.Desc.{counted_lines}
 use Rattle.gvis.specs.ProfileFiles.{categories_in}
 use Rattle.gvis.specs.UseAsked.{body_asks_use}
-
-unfoldable pub most_bytes : ℕ
-most_bytes = 16777216
 
 -- the fixed names. This stage doesn't know the files of a profile directory in `before` and `behind`
 unfoldable pub layout : Layout
 layout = record {
-  profiles = codes "profiles";
   desc = codes "profiles/profiles.desc";
   categories = codes "profiles/categories";
   mask = codes "profiles/package.mask";
@@ -51,7 +49,7 @@ Refusal = Option LoadFault
 
 -- a file that is too large
 abbrev pub too_large : List ℕ → Found → Refusal
-too_large path (File bytes) = if nat_lt most_bytes (length bytes) then Some (NotBuilt path) else None
+too_large path (File bytes) = if nat_lt most_file_bytes (length bytes) then Some (NotBuilt path) else None
 too_large path Dir = None
 too_large path Absent = None
 
@@ -116,7 +114,7 @@ dir_steps look None = []
 dir_steps look (Some dir) = read dir ∷ inside dir (look.found dir)
 
 abbrev pub line_steps : Look → DescLine → List Step
-line_steps look line = dir_steps look (resolved layout.profiles line.path)
+line_steps look line = dir_steps look (line_dir line)
 
 -- names that are no PF are passed over
 abbrev pub listed : Look → List ℕ → List (List ℕ)
@@ -132,7 +130,7 @@ file_bytes Dir = []
 file_bytes Absent = []
 
 abbrev pub desc_lines : Look → List DescLine
-desc_lines look = counted_lines (file_bytes (look.found layout.desc))
+desc_lines look = (desc_read (file_bytes (look.found layout.desc))).lines
 
 abbrev pub categories : Look → List (List ℕ)
 categories look = categories_in (file_bytes (look.found layout.categories))

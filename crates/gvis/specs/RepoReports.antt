@@ -1,6 +1,6 @@
 -- The reports of a repository, and the text of a scan.
-use Rattle.std.specs.Prelude.{ℕ, Bool, true, false, List, [], ◌∷◌, ◌++◌, Option, None, option_map, slice_get, if◌then◌else◌, flat_map, filter_map, unwrap_or, fold, codes}
-use Rattle.std.specs.BTreeSet.{insert_key}
+use Rattle.std.specs.Prelude.{ℕ, Bool, true, false, List, [], ◌∷◌, ◌++◌, Option, None, Some, option_map, if◌then◌else◌, flat_map, filter_map, unwrap_or, fold, codes}
+use Rattle.std.specs.Ordering.{is_lt}
 use Rattle.gv_expr.specs.DepGrammar.{item_text}
 use Rattle.gv_base.specs.Words.{joined}
 use Rattle.gv_facts.specs.declared.kinds.Class.{Class}
@@ -8,20 +8,23 @@ use Rattle.gv_facts.specs.declared.pkg.Pkg.{Pkg}
 use Rattle.gvis.specs.declared.repo.Repo.{Repo}
 use Rattle.gv_facts.specs.declared.kinds.Status.{Status}
 use Rattle.gv_facts.specs.declared.kinds.Status.TheVariants.{Stable, Dev, Exp}
-use Rattle.gvis.specs.declared.report.ContextName.{ContextName}
-use Rattle.gvis.specs.declared.report.Keyword.{Keyword}
-use Rattle.gvis.specs.declared.report.Keyword.TheVariants as keywords
-use Rattle.gvis.specs.declared.report.Report.{Report}
-use Rattle.gvis.specs.declared.report.Subject.{Subject}
+use Rattle.gv_report.specs.declared.keyword.Keyword.{Keyword}
+use Rattle.gv_report.specs.declared.keyword.Keyword.TheVariants as keywords
+use Rattle.gv_report.specs.declared.report.ContextName.{ContextName}
+use Rattle.gv_report.specs.declared.report.Report.{Report}
+use Rattle.gv_report.specs.declared.report.Subject.{Subject}
+use Rattle.gv_report.specs.declared.report.Subject.TheVariants.{Package}
+use Rattle.gv_report.specs.Emitted.{reports_text}
+use Rattle.gv_report.specs.Ordered.{ordered}
+use Rattle.gv_report.specs.ReportOrder.{subject_cmp}
+use Rattle.gv_report.specs.ReportText.{subject_text}
 use Rattle.gv_entry.specs.Allowed.{Parent, assignment, first_failing}
 use Rattle.gvis.specs.Cases.{Case, cases}
 use Rattle.gvis.specs.Classes.{classes}
 use Rattle.gvis.specs.Queries.{class_of, flags_of, has_query, has_wide, least_asked}
-use Rattle.gvis.specs.ReportOrder.{subject_cmp, ordered}
-use Rattle.gvis.specs.ReportText.{report_text, subject_text}
 
 abbrev pub subject_of : Pkg → Subject
-subject_of p = record { category = p.category; name = p.name; version = p.version; pf = p.pf }
+subject_of p = Package p.category p.name p.version p.pf
 
 abbrev pub context_of : Parent → ContextName
 context_of c = record { line = c.profile.line; arch = c.profile.arch; path = c.profile.path; level = c.level }
@@ -44,10 +47,10 @@ abbrev pub nonsolvable : Case → Class → List Bool → Report
 nonsolvable c class bits = record {
   subject = subject_of c.member.pkg;
   keyword = query_keyword c.parent.profile.status;
-  class = class;
-  context = context_of c.parent;
-  witness = joined (witness_words (flags_of c class) bits);
-  detail = unwrap_or (option_map item_text (first_failing c.parent (class_of c class) (assignment c.parent (flags_of c class) bits))) [];
+  class = Some class;
+  context = Some (context_of c.parent);
+  witness = Some (joined (witness_words (flags_of c class) bits));
+  detail = Some (unwrap_or (option_map item_text (first_failing c.parent (class_of c class) (assignment c.parent (flags_of c class) bits))) []);
 }
 
 -- of a class that has a query, under the least failing assignment
@@ -61,8 +64,13 @@ case_reports c = filter_map (query_report c) classes
 abbrev pub reports : Repo → List Report
 reports repo = flat_map case_reports (cases repo)
 
+-- one report more
+abbrev pub with_report : List Report → Report → List Report
+with_report rs r = rs ++ r ∷ []
+
+-- their lines, in the order of reports, equal ones once
 abbrev pub scan_text : Repo → List ℕ
-scan_text repo = report_text (ordered (reports repo))
+scan_text repo = reports_text false (ordered (reports repo))
 
 -- the package of a case, where that has a query of too many flags
 abbrev pub wide_of : Case → List Subject
@@ -71,6 +79,11 @@ wide_of c = if has_wide c then subject_of c.member.pkg ∷ [] else []
 abbrev pub wide_subjects : Repo → List Subject
 wide_subjects repo = flat_map wide_of (cases repo)
 
+-- the one of two subjects that comes first
+abbrev pub first_subject : Option Subject → Subject → Option Subject
+first_subject None s = Some s
+first_subject (Some t) s = if is_lt (subject_cmp s t) then Some s else Some t
+
 -- CATEGORY/PF of the first of them in package order: queries are ordered by package before all else
 abbrev pub first_wide : Repo → Option (List ℕ)
-first_wide repo = option_map subject_text (slice_get (fold (insert_key subject_cmp) [] (wide_subjects repo)) 0)
+first_wide repo = option_map subject_text (fold first_subject None (wide_subjects repo))

@@ -2,7 +2,7 @@
 use Rattle.std.specs.Prelude.{ℕ, List, [], map, if◌then◌else◌, Option, Some, None, option_map, flat_map, filter_map}
 use Rattle.gv_base.specs.declared.tree.Found.{Found}
 use Rattle.gv_base.specs.declared.tree.Found.TheVariants.{File, Dir, Absent}
-use Rattle.gvis.specs.declared.desc.DescLine.{DescLine}
+use Rattle.gv_profile.specs.declared.desc.DescLine.{DescLine}
 use Rattle.gv_entry.specs.declared.entry.Body.{Body}
 use Rattle.gv_entry.specs.declared.entry.Entry.{Entry}
 use Rattle.gvis.specs.declared.repo.Member.{Member}
@@ -12,7 +12,8 @@ use Rattle.gvis.specs.declared.repo.Repo.{Repo}
 use Rattle.gv_facts.specs.declared.rules.Rule.{Rule}
 use Rattle.gv_entry.specs.EntryRead.{entry_of}
 use Rattle.gvis.specs.Look.{Look}
-use Rattle.gvis.specs.Paths.{within, resolved}
+use Rattle.gv_profile.specs.Paths.{within}
+use Rattle.gv_profile.specs.Walk.{line_dir}
 use Rattle.gvis.specs.ProfileFiles.{is_good_eapi, rules_in}
 use Rattle.gvis.specs.Reading.{layout, entry_path, listed, file_bytes, desc_lines, categories}
 
@@ -30,7 +31,7 @@ rules_at look (Some dir) = rules_inside look dir (look.found dir)
 -- with nothing but these rules
 abbrev pub with_rules : DescLine → List Rule → Profile
 with_rules line rules = record {
-  line = line.line;
+  line = line.number;
   arch = line.arch;
   path = line.path;
   status = line.status;
@@ -45,7 +46,7 @@ with_rules line rules = record {
 
 -- the profile of a line, where its directory can be judged
 abbrev pub profile_of : Look → DescLine → Option Profile
-profile_of look line = option_map (with_rules line) (rules_at look (resolved layout.profiles line.path))
+profile_of look line = option_map (with_rules line) (rules_at look (line_dir line))
 
 abbrev pub with_body : Body → Pkg → Member
 with_body body p = record { pkg = p; body = body }

@@ -7,7 +7,8 @@ use Rattle.gv_expr.specs.Dep.{Dep, deps}
 use Rattle.gv_expr.specs.Mentioned.{wanted_atoms}
 use Rattle.gv_entry.specs.declared.entry.Body.{Body}
 use Rattle.gv_facts.specs.declared.kinds.Class.{Class}
-use Rattle.gvis.specs.Classes.{classes, class_in}
+use Rattle.gv_entry.specs.Queries.{class_in}
+use Rattle.gvis.specs.Classes.{classes}
 
 abbrev pub has_items : Atom → Bool
 has_items a = nat_lt 0 (length a.items)

@@ -1,17 +1,15 @@
 -- The words of the command line.
 use Rattle.std.specs.Prelude.{ℕ, ◌==◌, List, [], ◌∷◌, Bool, false, not, ◌&&◌, codes}
 use Rattle.std.specs.Str.{bytes_eq, is_utf8}
+use Rattle.gv_base.specs.Words.{is_empty}
 
 abbrev pub begins_with_hyphen : List ℕ → Bool
 begins_with_hyphen [] = false
 begins_with_hyphen (b ∷ bs) = b == 45
 
-abbrev pub is_empty_word : List ℕ → Bool
-is_empty_word word = bytes_eq word []
-
 -- a word in UTF-8 that isn't empty and doesn't begin with a hyphen
 abbrev pub is_plain : List ℕ → Bool
-is_plain word = not (is_empty_word word) && not (begins_with_hyphen word) && is_utf8 word
+is_plain word = not (is_empty word) && not (begins_with_hyphen word) && is_utf8 word
 
 -- scan ROOT --certs FILE
 abbrev pub is_scan : List (List ℕ) → Bool

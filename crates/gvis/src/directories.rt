@@ -5,18 +5,18 @@ ghost use Rattle.std.specs.Prelude.{◌≡◌, ◌≤◌, Some, IfOk, IfErr, OnO
 ghost use Rattle.gvis.specs.Agreement.{Knows};
 ghost use Rattle.gvis.specs.Look.{IsTold, look_in};
 ghost use Rattle.gvis.specs.LoadCauses.{Cause, Passes};
-ghost use Rattle.gvis.specs.Paths.{within};
+ghost use Rattle.gv_profile.specs.Paths.{within};
 ghost use Rattle.gvis.specs.ProfileFiles.{is_good_eapi, rules_in};
 ghost use Rattle.gvis.specs.Reading.{layout, refused, first_of, read, plain, absent, absent_in, inside, dir_steps, file_bytes};
 ghost use Rattle.gvis.specs.Repository.{rules_inside};
 
 use crate::LoadFault;
 use crate::layout::Layout;
-use crate::paths::within;
 use crate::profile_files::{is_good_eapi, rules_in};
 use crate::reader::Reader;
 use gv_base::{Found, Text, Texts, Tree};
 use gv_facts::Rules;
+use gv_profile::within;
 use std::alloc::Global;
 
 // Sees that a directory has no file or folder of this name.
@@ -32,6 +32,7 @@ fn absent_name<T: Tree>(
     ensures knows { OnOk result (Knows (T.files tree.old) reader.new) }
     ensures cause { IfErr result (Cause (T.files tree.old) (T.faults tree.old) (T.faults tree.new) (refused (look_in (T.files tree.old)) (absent (within dir.now name.now)))) }
     ensures files { T.files tree.new ≡ T.files tree.old }
+    ensures root { T.entered tree.new ≡ T.entered tree.old }
     ensures later { T.faults tree.old ≤ T.faults tree.new }
     ensures calm { OnOk result (T.faults tree.new ≡ T.faults tree.old) }
 {
@@ -57,6 +58,7 @@ fn absent_names<T: Tree>(
     ensures knows { OnOk result (Knows (T.files tree.old) reader.new) }
     ensures cause { IfErr result (Cause (T.files tree.old) (T.faults tree.old) (T.faults tree.new) (first_of (look_in (T.files tree.old)) (absent_in dir.now names.now))) }
     ensures files { T.files tree.new ≡ T.files tree.old }
+    ensures root { T.entered tree.new ≡ T.entered tree.old }
     ensures later { T.faults tree.old ≤ T.faults tree.new }
     ensures calm { OnOk result (T.faults tree.new ≡ T.faults tree.old) }
 {
@@ -82,6 +84,7 @@ fn eapi_is_good<T: Tree>(
     ensures knows { OnOk result (Knows (T.files tree.old) reader.new) }
     ensures cause { IfErr result (Cause (T.files tree.old) (T.faults tree.old) (T.faults tree.new) (refused (look_in (T.files tree.old)) (read (within dir.now name.now)))) }
     ensures files { T.files tree.new ≡ T.files tree.old }
+    ensures root { T.entered tree.new ≡ T.entered tree.old }
     ensures later { T.faults tree.old ≤ T.faults tree.new }
     ensures calm { OnOk result (T.faults tree.new ≡ T.faults tree.old) }
 {
@@ -112,6 +115,7 @@ fn flag_rules<T: Tree>(
     ensures knows { OnOk result (Knows (T.files tree.old) reader.new) }
     ensures cause { IfErr result (Cause (T.files tree.old) (T.faults tree.old) (T.faults tree.new) (refused (look_in (T.files tree.old)) (plain (within dir.now name.now)))) }
     ensures files { T.files tree.new ≡ T.files tree.old }
+    ensures root { T.entered tree.new ≡ T.entered tree.old }
     ensures later { T.faults tree.old ≤ T.faults tree.new }
     ensures calm { OnOk result (T.faults tree.new ≡ T.faults tree.old) }
 {
@@ -143,6 +147,7 @@ fn read_inside<T: Tree>(
     ensures knows { OnOk result (Knows (T.files tree.old) reader.new) }
     ensures cause { IfErr result (Cause (T.files tree.old) (T.faults tree.old) (T.faults tree.new) (first_of (look_in (T.files tree.old)) (inside dir.now Found.Dir))) }
     ensures files { T.files tree.new ≡ T.files tree.old }
+    ensures root { T.entered tree.new ≡ T.entered tree.old }
     ensures later { T.faults tree.old ≤ T.faults tree.new }
     ensures calm { OnOk result (T.faults tree.new ≡ T.faults tree.old) }
 {
@@ -178,6 +183,7 @@ pub(crate) fn read_directory<T: Tree>(
     ensures knows { OnOk result (Knows (T.files tree.old) reader.new) }
     ensures cause { IfErr result (Cause (T.files tree.old) (T.faults tree.old) (T.faults tree.new) (first_of (look_in (T.files tree.old)) (dir_steps (look_in (T.files tree.old)) (Some dir.now)))) }
     ensures files { T.files tree.new ≡ T.files tree.old }
+    ensures root { T.entered tree.new ≡ T.entered tree.old }
     ensures later { T.faults tree.old ≤ T.faults tree.new }
     ensures calm { OnOk result (T.faults tree.new ≡ T.faults tree.old) }
 {

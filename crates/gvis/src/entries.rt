@@ -8,20 +8,20 @@ ghost use Rattle.gvis.specs.Agreement.{Knows};
 ghost use Rattle.gv_entry.specs.EntryRead.{entry_of};
 ghost use Rattle.gvis.specs.Look.{IsTold, look_in};
 ghost use Rattle.gvis.specs.LoadCauses.{Cause, Passes};
-ghost use Rattle.gvis.specs.Paths.{within};
+ghost use Rattle.gv_profile.specs.Paths.{within};
 ghost use Rattle.gvis.specs.Pf.{is_pf};
 ghost use Rattle.gvis.specs.Reading.{Refusal, layout, refused, first_of, entry, entry_path, unread, not_built, category_steps, listed};
 ghost use Rattle.gvis.specs.Repository.{package_in, member_at, member_of, members_of};
 
 use crate::faults::{failed, not_built};
 use crate::layout::Layout;
-use crate::paths::within;
 use crate::pf::pfs_among;
 use crate::reader::Reader;
 use crate::use_asked::body_asks_use;
 use crate::{LoadFault, Member, Members};
 use gv_base::{Found, NoMemory, Text, Texts, Tree, TreeFault};
 use gv_entry::{Entry, read_entry};
+use gv_profile::within;
 use std::alloc::Global;
 
 // The package of an entry with its body, if it says one.
@@ -77,6 +77,7 @@ fn read_member<T: Tree>(
     ensures passed { OnOk result (Passes (T.files tree.old) (unread category.now pf.now ((look_in (T.files tree.old)).found path.now))) }
     ensures cause { IfErr result (Cause (T.files tree.old) (T.faults tree.old) (T.faults tree.new) (unread category.now pf.now ((look_in (T.files tree.old)).found path.now))) }
     ensures files { T.files tree.new ≡ T.files tree.old }
+    ensures root { T.entered tree.new ≡ T.entered tree.old }
     ensures later { T.faults tree.old ≤ T.faults tree.new }
     ensures calm { OnOk result (T.faults tree.new ≡ T.faults tree.old) }
 {
@@ -107,6 +108,7 @@ fn read_listed<T: Tree>(
     ensures passed { OnOk result (Passes (T.files tree.old) (refused (look_in (T.files tree.old)) (entry category.now pf.now))) }
     ensures cause { IfErr result (Cause (T.files tree.old) (T.faults tree.old) (T.faults tree.new) (refused (look_in (T.files tree.old)) (entry category.now pf.now))) }
     ensures files { T.files tree.new ≡ T.files tree.old }
+    ensures root { T.entered tree.new ≡ T.entered tree.old }
     ensures later { T.faults tree.old ≤ T.faults tree.new }
     ensures calm { OnOk result (T.faults tree.new ≡ T.faults tree.old) }
 {
@@ -149,6 +151,7 @@ fn read_name<T: Tree>(
     ensures passed { OnOk result (Passes (T.files tree.old) (refused (look_in (T.files tree.old)) (entry category.now pf.now))) }
     ensures cause { IfErr result (Cause (T.files tree.old) (T.faults tree.old) (T.faults tree.new) (refused (look_in (T.files tree.old)) (entry category.now pf.now))) }
     ensures files { T.files tree.new ≡ T.files tree.old }
+    ensures root { T.entered tree.new ≡ T.entered tree.old }
     ensures later { T.faults tree.old ≤ T.faults tree.new }
     ensures calm { OnOk result (T.faults tree.new ≡ T.faults tree.old) }
 {
@@ -179,6 +182,7 @@ fn read_names<T: Tree>(
     ensures passed { OnOk result (Passes (T.files tree.old) (first_of (look_in (T.files tree.old)) (map (entry category.now) names.now))) }
     ensures cause { IfErr result (Cause (T.files tree.old) (T.faults tree.old) (T.faults tree.new) (first_of (look_in (T.files tree.old)) (map (entry category.now) names.now))) }
     ensures files { T.files tree.new ≡ T.files tree.old }
+    ensures root { T.entered tree.new ≡ T.entered tree.old }
     ensures later { T.faults tree.old ≤ T.faults tree.new }
     ensures calm { OnOk result (T.faults tree.new ≡ T.faults tree.old) }
 {
@@ -206,6 +210,7 @@ fn list_pfs<T: Tree>(alloc: Global, tree: &mut T, folder: &Text) -> Result<Texts
     ensures pfs { IfOk result (λ names. list_all is_pf names ≡ true) }
     ensures cause { (refusal : Refusal) → IfErr result (Cause (T.files tree.old) (T.faults tree.old) (T.faults tree.new) refusal) }
     ensures files { T.files tree.new ≡ T.files tree.old }
+    ensures root { T.entered tree.new ≡ T.entered tree.old }
     ensures later { T.faults tree.old ≤ T.faults tree.new }
     ensures calm { OnOk result (T.faults tree.new ≡ T.faults tree.old) }
 {
@@ -235,6 +240,7 @@ fn read_category<T: Tree>(
     ensures passed { OnOk result (Passes (T.files tree.old) (first_of (look_in (T.files tree.old)) (category_steps (look_in (T.files tree.old)) category.now))) }
     ensures cause { IfErr result (Cause (T.files tree.old) (T.faults tree.old) (T.faults tree.new) (first_of (look_in (T.files tree.old)) (category_steps (look_in (T.files tree.old)) category.now))) }
     ensures files { T.files tree.new ≡ T.files tree.old }
+    ensures root { T.entered tree.new ≡ T.entered tree.old }
     ensures later { T.faults tree.old ≤ T.faults tree.new }
     ensures calm { OnOk result (T.faults tree.new ≡ T.faults tree.old) }
 {
@@ -265,6 +271,7 @@ pub(crate) fn read_members<T: Tree>(
     ensures passed { OnOk result (Passes (T.files tree.old) (first_of (look_in (T.files tree.old)) (flat_map (category_steps (look_in (T.files tree.old))) categories.now))) }
     ensures cause { IfErr result (Cause (T.files tree.old) (T.faults tree.old) (T.faults tree.new) (first_of (look_in (T.files tree.old)) (flat_map (category_steps (look_in (T.files tree.old))) categories.now))) }
     ensures files { T.files tree.new ≡ T.files tree.old }
+    ensures root { T.entered tree.new ≡ T.entered tree.old }
     ensures later { T.faults tree.old ≤ T.faults tree.new }
     ensures calm { OnOk result (T.faults tree.new ≡ T.faults tree.old) }
 {

@@ -5,13 +5,12 @@
 ghost use Rattle.std.specs.Prelude.{◌≡◌, ◌||◌, not};
 ghost use Rattle.std.specs.List.{list_all};
 ghost use Rattle.std.specs.Str.{bytes_eq};
-ghost use Rattle.gv_atom.specs.UseItems.{asked};
 ghost use Rattle.gv_facts.specs.AtomMet.{gives, item_given, items_met, may_be, serves};
 ghost use Rattle.gv_facts.specs.States.{state};
 ghost use Rattle.gvis.specs.Judged.{on_of};
 
 use crate::assignment::Assignment;
-use gv_atom::{Ask, UseItem};
+use gv_atom::UseItem;
 use gv_base::Text;
 use gv_facts::{FlagState, Pkg};
 use gv_usestate::state;
@@ -23,22 +22,6 @@ fn may_be(state: FlagState, bit: bool) -> bool
         FlagState::On => bit,
         FlagState::Off => !bit,
         FlagState::Free | FlagState::Absent => true,
-    }
-}
-
-// What an item asks, if anything, where the parent's flag is on or off.
-fn asked(ask: Ask, parent: bool) -> Option<bool>
-    ensures { result ≡ asked ask parent }
-{
-    match (ask, parent) {
-        (Ask::On, _) => Some(true),
-        (Ask::Off, _) => Some(false),
-        (Ask::Same, _) => Some(parent),
-        (Ask::Opposite, _) => Some(!parent),
-        (Ask::OnIf, true) => Some(true),
-        (Ask::OnIf, false) => None,
-        (Ask::OffIfNot, true) => None,
-        (Ask::OffIfNot, false) => Some(false),
     }
 }
 
@@ -61,7 +44,7 @@ fn item_given(state: FlagState, bit: bool, on: &Assignment<'_>, item: &UseItem) 
         state,
         item.missing,
         bit,
-        asked(item.ask, on.is_on(&item.flag)),
+        item.ask.asked(on.is_on(&item.flag)),
     )
 }
 

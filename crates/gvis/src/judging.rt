@@ -1,31 +1,28 @@
 //! Judging a repository: which queries fail.
 //!
-//! For each profile and each level the packages are indexed once, beside the test that tells which are visible there. Each
-//! package that is judged there costs its queries, each at most 2^12 trials. The reports are kept in order until all are
+//! The packages are indexed once; for each profile and each level there is a test that tells which are visible there. Each
+//! package that is judged there costs its queries, each at most 2^12 trials. The reports are put in order when all are
 //! there.
-ghost use Rattle.std.specs.Prelude.{◌≡◌, ◌<◌, ◌^◌, [], None, length, flat_map, filter_map, fold, IfOk, IfErr, OnOk};
-ghost use Rattle.std.specs.BTreeSet.{insert_key};
+ghost use Rattle.std.specs.Prelude.{◌≡◌, ◌<◌, ◌^◌, [], None, false, length, flat_map, filter_map, fold, IfOk, IfErr, OnOk};
 ghost use Rattle.std.specs.Option.{option_map_or};
+ghost use Rattle.gv_report.specs.Emitted.{reports_text};
 ghost use Rattle.gv_visible.specs.Told.{level_of, pkgs_of, profile_of, test_of};
 ghost use Rattle.gvis.specs.Cases.{case_at, cases_at, cases_in};
 ghost use Rattle.gvis.specs.Causes.{IsWide};
 ghost use Rattle.gvis.specs.Judged.{MayJudge};
 ghost use Rattle.gvis.specs.Pairs.{paired};
-ghost use Rattle.gvis.specs.ReportOrder.{ordered, report_cmp};
-ghost use Rattle.gvis.specs.ReportText.{report_text};
-ghost use Rattle.gvis.specs.RepoReports.{case_reports, first_wide, reports, scan_text};
+ghost use Rattle.gvis.specs.RepoReports.{case_reports, first_wide, reports, scan_text, with_report};
 
 use crate::judged::Judged;
-use crate::report::Report;
 use crate::reporting::add_case_reports;
 use crate::wide::{first_wide, is_judged_at};
 use crate::{Bodies, Repo};
 use gv_base::{NoMemory, Text};
 use gv_entry::Body;
 use gv_facts::{Level, Pkg, Profile};
-use gv_visible::{Candidates, visible};
+use gv_report::{Reports, ordered};
+use gv_visible::{Candidates, PkgIndex, visible};
 use std::alloc::Global;
-use std::collections::BTreeSet;
 
 /// Why a repository wasn't judged.
 #[derive(Drop)]
@@ -52,10 +49,10 @@ fn add_pkg_reports<F: Fn(&Pkg) -> bool>(
     candidates: &Candidates<'_, F>,
     pkg: &Pkg,
     body: &Body,
-    reports: &mut BTreeSet<Report>,
+    reports: &mut Reports,
 ) -> Result<(), NoMemory>
     requires { MayJudge (F.pre (test_of candidates.now)) (F.post (test_of candidates.now)) candidates.now }
-    ensures { OnOk result (reports.new.keys ≡ fold (insert_key report_cmp) reports.old.keys (option_map_or case_reports (case_at (pkgs_of candidates.now) (profile_of candidates.now) (level_of candidates.now) (record { pkg = pkg.now; body = body.now })) [])) }
+    ensures { OnOk result (reports.new ≡ fold with_report reports.old (option_map_or case_reports (case_at (pkgs_of candidates.now) (profile_of candidates.now) (level_of candidates.now) (record { pkg = pkg.now; body = body.now })) [])) }
 {
     if !is_judged_at(pkg, candidates.profile(), candidates.level()) {
         return Ok(());
@@ -76,10 +73,10 @@ fn add_all_reports<F: Fn(&Pkg) -> bool>(
     alloc: Global,
     candidates: &Candidates<'_, F>,
     bodies: &Bodies,
-    reports: &mut BTreeSet<Report>,
+    reports: &mut Reports,
 ) -> Result<(), NoMemory>
     requires { MayJudge (F.pre (test_of candidates.now)) (F.post (test_of candidates.now)) candidates.now }
-    ensures { OnOk result (reports.new.keys ≡ fold (insert_key report_cmp) reports.old.keys (flat_map case_reports (filter_map (case_at (pkgs_of candidates.now) (profile_of candidates.now) (level_of candidates.now)) (paired (pkgs_of candidates.now) bodies.now)))) }
+    ensures { OnOk result (reports.new ≡ fold with_report reports.old (flat_map case_reports (filter_map (case_at (pkgs_of candidates.now) (profile_of candidates.now) (level_of candidates.now)) (paired (pkgs_of candidates.now) bodies.now)))) }
 {
     let bodies = bodies.items();
     for (i, pkg) in candidates.pkgs().items().iter().enumerate() {
@@ -91,54 +88,67 @@ fn add_all_reports<F: Fn(&Pkg) -> bool>(
     Ok(())
 }
 
-fn add_level_reports(
+fn add_level_reports<'a>(
     alloc: Global,
+    index: &'a PkgIndex<'a>,
     repo: &Repo,
-    profile: &Profile,
+    profile: &'a Profile,
     level: Level,
-    reports: &mut BTreeSet<Report>,
+    reports: &mut Reports,
 ) -> Result<(), NoMemory>
-    requires { length repo.now.pkgs < 2 ^ 32 }
-    ensures { OnOk result (reports.new.keys ≡ fold (insert_key report_cmp) reports.old.keys (flat_map case_reports (cases_at repo.now profile.now level))) }
+    requires few { length repo.now.pkgs < 2 ^ 32 }
+    requires index { index.now ≡ repo.now.pkgs }
+    ensures { OnOk result (reports.new ≡ fold with_report reports.old (flat_map case_reports (cases_at repo.now profile.now level))) }
 {
-    let candidates = Candidates::new(alloc, &repo.pkgs, profile, level, |pkg: &Pkg| {
-        visible(pkg, profile, level)
-    })?;
+    let shown = |pkg: &Pkg| visible(pkg, profile, level);
+    let candidates = Candidates::over(index, profile, level, shown);
     add_all_reports(alloc, &candidates, &repo.bodies, reports)
 }
 
 #[tactic(auto, using(crate::proofs::CaseLemmas::both_levels))]
-fn add_profile_reports(
+fn add_profile_reports<'a>(
     alloc: Global,
+    index: &'a PkgIndex<'a>,
     repo: &Repo,
-    profile: &Profile,
-    reports: &mut BTreeSet<Report>,
+    profile: &'a Profile,
+    reports: &mut Reports,
 ) -> Result<(), NoMemory>
-    requires { length repo.now.pkgs < 2 ^ 32 }
-    ensures { OnOk result (reports.new.keys ≡ fold (insert_key report_cmp) reports.old.keys (flat_map case_reports (cases_in repo.now profile.now))) }
+    requires few { length repo.now.pkgs < 2 ^ 32 }
+    requires index { index.now ≡ repo.now.pkgs }
+    ensures { OnOk result (reports.new ≡ fold with_report reports.old (flat_map case_reports (cases_in repo.now profile.now))) }
 {
-    add_level_reports(alloc, repo, profile, Level::Stable, reports)?;
-    add_level_reports(alloc, repo, profile, Level::Testing, reports)
+    add_level_reports(alloc, index, repo, profile, Level::Stable, reports)?;
+    add_level_reports(alloc, index, repo, profile, Level::Testing, reports)
 }
 
 #[tactic(auto, using(crate::proofs::CaseLemmas::next_profile))]
-fn reports_of(alloc: Global, repo: &Repo) -> Result<BTreeSet<Report>, NoMemory>
-    requires { length repo.now.pkgs < 2 ^ 32 }
-    ensures { IfOk result (λ kept. kept.keys ≡ ordered (reports repo.now)) }
+fn reports_over(alloc: Global, index: &PkgIndex<'_>, repo: &Repo) -> Result<Reports, NoMemory>
+    requires few { length repo.now.pkgs < 2 ^ 32 }
+    requires index { index.now ≡ repo.now.pkgs }
+    ensures { IfOk result (λ found. found ≡ fold with_report [] (reports repo.now)) }
 {
-    let mut reports = BTreeSet::new(alloc);
+    let mut reports = Reports::new(alloc);
     for profile in repo.profiles.items() {
-        add_profile_reports(alloc, repo, profile, &mut reports)?;
+        add_profile_reports(alloc, &*index, repo, profile, &mut reports)?;
     }
     Ok(reports)
 }
 
-fn lines_of(alloc: Global, reports: &BTreeSet<Report>) -> Result<Text, NoMemory>
-    ensures { IfOk result (λ text. text ≡ report_text reports.now.keys) }
+#[tactic(auto, using(crate::proofs::CaseLemmas::all_reports))]
+fn reports_of(alloc: Global, repo: &Repo) -> Result<Reports, NoMemory>
+    requires { length repo.now.pkgs < 2 ^ 32 }
+    ensures { IfOk result (λ found. found ≡ reports repo.now) }
+{
+    let index = PkgIndex::new(alloc, &repo.pkgs)?;
+    reports_over(alloc, &index, repo)
+}
+
+fn lines_of(alloc: Global, reports: &Reports) -> Result<Text, NoMemory>
+    ensures { IfOk result (λ text. text ≡ reports_text false reports.now) }
 {
     let mut text = Text::of(alloc, b"")?;
-    for report in reports.iter() {
-        report.append_to(&mut text)?;
+    for report in reports.items() {
+        report.append_line(alloc, &mut text)?;
     }
     Ok(text)
 }
@@ -156,6 +166,6 @@ pub fn report_text(alloc: Global, repo: &Repo) -> Result<Text, JudgeFault>
     if repo.pkgs.items().len() > u32::MAX as usize {
         return Err(JudgeFault::NoMemory);
     }
-    let reports = reports_of(alloc, repo)?;
+    let reports = ordered(alloc, reports_of(alloc, repo)?)?;
     Ok(lines_of(alloc, &reports)?)
 }

@@ -8,8 +8,6 @@ use std::alloc::Global;
 /// The fixed names in a repository.
 #[derive(Drop)]
 pub struct Layout {
-    /// The folder of the profiles.
-    pub profiles: Text,
     /// The list of the profiles.
     pub desc: Text,
     /// The list of the categories.
@@ -67,7 +65,6 @@ pub(crate) fn fixed_names(alloc: Global) -> Result<Layout, NoMemory>
     ensures { IfOk result (λ names. names ≡ layout) }
 {
     Ok(Layout {
-        profiles: Text::of(alloc, b"profiles")?,
         desc: Text::of(alloc, b"profiles/profiles.desc")?,
         categories: Text::of(alloc, b"profiles/categories")?,
         mask: Text::of(alloc, b"profiles/package.mask")?,

@@ -6,12 +6,11 @@ ghost use Rattle.std.specs.Prelude.{◌≡◌, ◌≤◌, ◌++◌, None, IfOk, 
 ghost use Rattle.gvis.specs.Agreement.{Knows};
 ghost use Rattle.gvis.specs.Look.{IsTold, look_in, look_of};
 ghost use Rattle.gvis.specs.LoadCauses.{Cause, Passes, LoadCause};
-ghost use Rattle.gvis.specs.Desc.{counted_lines};
+ghost use Rattle.gv_profile.specs.Desc.{desc_read};
 ghost use Rattle.gvis.specs.ProfileFiles.{categories_in};
 ghost use Rattle.gvis.specs.Reading.{layout, first_of, list_steps, line_steps, category_steps, desc_lines, categories, first_refusal};
 ghost use Rattle.gvis.specs.Repository.{profile_of, members_of, repo_of, repo_with};
 
-use crate::desc::{DescLines, counted_lines};
 use crate::entries::read_members;
 use crate::layout::{Layout, fixed_names};
 use crate::profile_files::categories_in;
@@ -19,6 +18,7 @@ use crate::profiles::read_profiles;
 use crate::reader::Reader;
 use crate::{LoadFault, Repo};
 use gv_base::{NoMemory, Text, Texts, Tree};
+use gv_profile::{DescLines, read_desc};
 use std::alloc::Global;
 
 // The lists at the top of a repository.
@@ -29,10 +29,10 @@ struct Lists {
 }
 
 fn parse_lists(alloc: Global, desc: &Text, categories: &Text) -> Result<Lists, NoMemory>
-    ensures lines { IfOk result (λ lists. lists.lines ≡ counted_lines desc.now) }
+    ensures lines { IfOk result (λ lists. lists.lines ≡ (desc_read desc.now).lines) }
     ensures categories { IfOk result (λ lists. lists.categories ≡ categories_in categories.now) }
 {
-    let lines = counted_lines(alloc, desc.bytes())?;
+    let lines = read_desc(alloc, desc.bytes())?.lines;
     let categories = categories_in(alloc, categories.bytes())?;
     Ok(Lists { lines, categories })
 }
@@ -52,6 +52,7 @@ fn read_lists<T: Tree>(
     ensures knows { OnOk result (Knows (T.files tree.old) reader.new) }
     ensures cause { IfErr result (Cause (T.files tree.old) (T.faults tree.old) (T.faults tree.new) (first_of (look_in (T.files tree.old)) list_steps)) }
     ensures files { T.files tree.new ≡ T.files tree.old }
+    ensures root { T.entered tree.new ≡ T.entered tree.old }
     ensures later { T.faults tree.old ≤ T.faults tree.new }
     ensures calm { OnOk result (T.faults tree.new ≡ T.faults tree.old) }
 {
@@ -88,6 +89,7 @@ fn read_both<T: Tree>(
     ensures cause { IfErr result (Cause (T.files tree.old) (T.faults tree.old) (T.faults tree.new) (first_of (look_in (T.files tree.old))
         (flat_map (line_steps (look_in (T.files tree.old))) lists.now.lines ++ flat_map (category_steps (look_in (T.files tree.old))) lists.now.categories))) }
     ensures files { T.files tree.new ≡ T.files tree.old }
+    ensures root { T.entered tree.new ≡ T.entered tree.old }
     ensures later { T.faults tree.old ≤ T.faults tree.new }
     ensures calm { OnOk result (T.faults tree.new ≡ T.faults tree.old) }
 {
@@ -108,6 +110,7 @@ fn read_repo<T: Tree>(alloc: Global, tree: &mut T, names: &Layout) -> Result<Rep
     ensures passed { OnOk result (Passes (T.files tree.old) (first_refusal (look_in (T.files tree.old)))) }
     ensures cause { IfErr result (Cause (T.files tree.old) (T.faults tree.old) (T.faults tree.new) (first_refusal (look_in (T.files tree.old)))) }
     ensures files { T.files tree.new ≡ T.files tree.old }
+    ensures root { T.entered tree.new ≡ T.entered tree.old }
     ensures later { T.faults tree.old ≤ T.faults tree.new }
     ensures calm { OnOk result (T.faults tree.new ≡ T.faults tree.old) }
 {
@@ -130,6 +133,7 @@ pub fn load<T: Tree>(alloc: Global, tree: &mut T) -> Result<Repo, LoadFault>
     ensures passed { OnOk result (IfSome (T.files tree.old) (λ files. first_refusal (look_of files) ≡ None)) }
     ensures cause { IfErr result (LoadCause (T.files tree.old) (T.faults tree.old) (T.faults tree.new)) }
     ensures files { T.files tree.new ≡ T.files tree.old }
+    ensures root { T.entered tree.new ≡ T.entered tree.old }
     ensures later { T.faults tree.old ≤ T.faults tree.new }
     ensures calm { OnOk result (T.faults tree.new ≡ T.faults tree.old) }
 {

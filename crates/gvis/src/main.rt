@@ -5,7 +5,6 @@ ghost use Rattle.std.specs.Prelude.{◌≡◌};
 
 mod assignment;
 mod classes;
-mod desc;
 mod directories;
 mod entries;
 mod faults;
@@ -13,14 +12,11 @@ mod holds;
 mod items;
 mod judged;
 mod judging;
-mod laws;
 mod layout;
 mod least;
-mod lines;
 mod loading;
 mod meeting;
 mod output;
-mod paths;
 mod pf;
 mod profile_files;
 mod profiles;
@@ -31,7 +27,6 @@ mod refusal;
 #[cfg(test)]
 mod refusal_tests;
 mod repo;
-mod report;
 #[cfg(test)]
 mod report_tests;
 mod reporting;
@@ -45,16 +40,13 @@ mod use_asked;
 mod wide;
 mod words;
 
-pub use desc::{DescLine, DescLines};
 pub use faults::LoadFault;
 use gv_base::{Ledger, NoMemory, Steps, Text, Texts};
 pub use judging::{JudgeFault, report_text};
-pub use laws::{least_of_all_assignments, reports_in_order};
 pub use loading::load;
 use real::{FsStore, FsTree, StdSink, StdSource};
 pub use refusal::Refusal;
 pub use repo::{Bodies, Member, Members, Repo};
-pub use report::{ContextName, Keyword, Report, Subject};
 pub use running::run;
 use std::alloc::Global;
 use std::env;

@@ -4,7 +4,6 @@
 ghost use Rattle.std.specs.Prelude.{◌≡◌, false, slice_get};
 ghost use Rattle.std.specs.List.{list_any};
 ghost use Rattle.std.specs.Option.{option_map_or};
-ghost use Rattle.gv_atom.specs.UseItems.{is_blocker};
 ghost use Rattle.gv_facts.specs.AtomMet.{atom_met, items_met, meets};
 ghost use Rattle.gv_facts.specs.States.{state};
 ghost use Rattle.gv_visible.specs.Told.{test_of};
@@ -12,18 +11,9 @@ ghost use Rattle.gvis.specs.Judged.{AreAround, on_of};
 
 use crate::assignment::Assignment;
 use crate::items::items_met;
-use gv_atom::{Atom, Block};
+use gv_atom::Atom;
 use gv_facts::Pkg;
 use gv_visible::Candidates;
-
-fn is_blocker(block: Block) -> bool
-    ensures { result ≡ is_blocker block }
-{
-    match block {
-        Block::No => false,
-        Block::Weak | Block::Strong => true,
-    }
-}
 
 // Whether there is a package with this number, and it meets the atom's items.
 fn items_met_at(pkgs: &[Pkg], n: u32, atom: &Atom, on: &Assignment<'_>) -> bool
@@ -64,5 +54,5 @@ pub fn is_met<F: Fn(&Pkg) -> bool>(
     requires { AreAround (F.pre (test_of candidates.now)) (F.post (test_of candidates.now)) candidates.now on.now.judged.now }
     ensures { result ≡ atom_met on.now.judged.now.pkgs.now on.now.judged.now.profile.now on.now.judged.now.level (on_of on.now) atom.now }
 {
-    is_blocker(atom.block) || some_meets(candidates, atom, on)
+    atom.is_blocker() || some_meets(candidates, atom, on)
 }

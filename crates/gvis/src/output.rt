@@ -2,7 +2,7 @@
 ghost use Rattle.std.specs.Prelude.{◌≡◌, ◌≤◌, OnOk, OnErr, IsErrOf};
 ghost use Rattle.gv_base.specs.Causes.{Rose};
 ghost use Rattle.gv_base.specs.Outside.{gains};
-ghost use Rattle.gvis.specs.Run.{GainsFront};
+ghost use Rattle.gvis.specs.Endings.{GainsFront};
 
 use gv_base::{Sink, SinkFault};
 

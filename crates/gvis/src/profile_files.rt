@@ -5,9 +5,9 @@ ghost use Rattle.std.specs.Prelude.{◌≡◌, IfOk, Some, None, if◌then◌els
 ghost use Rattle.gv_version.specs.Names.{is_flag};
 ghost use Rattle.gvis.specs.ProfileFiles.{category_in, categories_in, masking, rule_of, rule_in, rules_in, is_eapi, is_good_eapi};
 
-use crate::lines::line_words;
 use gv_base::{Cut, NoMemory, Text, Texts, next_piece};
 use gv_facts::{Effect, Rule, Rules};
+use gv_profile::line_words;
 use gv_version::{is_category, is_flag};
 use std::alloc::Global;
 

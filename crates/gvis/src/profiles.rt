@@ -5,18 +5,17 @@ ghost use Rattle.std.specs.Prelude.{◌≡◌, ◌≤◌, ◌++◌, Some, None, 
 ghost use Rattle.gvis.specs.Agreement.{Knows};
 ghost use Rattle.gvis.specs.Look.{IsTold, look_in};
 ghost use Rattle.gvis.specs.LoadCauses.{Cause, Passes};
-ghost use Rattle.gvis.specs.Paths.{resolved};
+ghost use Rattle.gv_profile.specs.Walk.{line_dir};
 ghost use Rattle.gvis.specs.Reading.{layout, first_of, line_steps};
 ghost use Rattle.gvis.specs.Repository.{rules_at, with_rules, profile_of};
 
 use crate::LoadFault;
-use crate::desc::{DescLine, DescLines};
 use crate::directories::read_directory;
 use crate::layout::Layout;
-use crate::paths::resolve;
 use crate::reader::Reader;
 use gv_base::{NoMemory, Texts, Tree};
 use gv_facts::{Masks, Profile, Profiles, Rules, ValueLists};
+use gv_profile::{DescLine, DescLines, line_dir};
 use std::alloc::Global;
 
 // The rules of a line's directory, none where it can't be judged.
@@ -29,15 +28,16 @@ fn read_rules<T: Tree>(
 ) -> Result<Option<Rules>, LoadFault>
     requires knows { Knows (T.files tree.old) reader.old }
     requires names { names.now ≡ layout }
-    ensures rules { IfOk result (λ rules. IsTold (T.files tree.old) → rules ≡ rules_at (look_in (T.files tree.old)) (resolved layout.profiles line.now.path)) }
+    ensures rules { IfOk result (λ rules. IsTold (T.files tree.old) → rules ≡ rules_at (look_in (T.files tree.old)) (line_dir line.now)) }
     ensures passed { OnOk result (Passes (T.files tree.old) (first_of (look_in (T.files tree.old)) (line_steps (look_in (T.files tree.old)) line.now))) }
     ensures knows { OnOk result (Knows (T.files tree.old) reader.new) }
     ensures cause { IfErr result (Cause (T.files tree.old) (T.faults tree.old) (T.faults tree.new) (first_of (look_in (T.files tree.old)) (line_steps (look_in (T.files tree.old)) line.now))) }
     ensures files { T.files tree.new ≡ T.files tree.old }
+    ensures root { T.entered tree.new ≡ T.entered tree.old }
     ensures later { T.faults tree.old ≤ T.faults tree.new }
     ensures calm { OnOk result (T.faults tree.new ≡ T.faults tree.old) }
 {
-    match resolve(alloc, names.profiles.bytes(), line.path.bytes()) {
+    match line_dir(alloc, line) {
         Ok(Some(dir)) => match read_directory(alloc, reader, tree, names, &dir) {
             Ok(rules) => Ok(rules),
             Err(fault) => Err(fault),
@@ -58,7 +58,7 @@ fn add_profile(
     match rules {
         Some(rules) => {
             profiles.add(Profile {
-                line: line.line,
+                line: line.number,
                 arch: line.arch.copy(alloc)?,
                 path: line.path.copy(alloc)?,
                 status: line.status,
@@ -91,6 +91,7 @@ fn read_line<T: Tree>(
     ensures knows { OnOk result (Knows (T.files tree.old) reader.new) }
     ensures cause { IfErr result (Cause (T.files tree.old) (T.faults tree.old) (T.faults tree.new) (first_of (look_in (T.files tree.old)) (line_steps (look_in (T.files tree.old)) line.now))) }
     ensures files { T.files tree.new ≡ T.files tree.old }
+    ensures root { T.entered tree.new ≡ T.entered tree.old }
     ensures later { T.faults tree.old ≤ T.faults tree.new }
     ensures calm { OnOk result (T.faults tree.new ≡ T.faults tree.old) }
 {
@@ -119,6 +120,7 @@ pub(crate) fn read_profiles<T: Tree>(
     ensures knows { OnOk result (Knows (T.files tree.old) reader.new) }
     ensures cause { IfErr result (Cause (T.files tree.old) (T.faults tree.old) (T.faults tree.new) (first_of (look_in (T.files tree.old)) (flat_map (line_steps (look_in (T.files tree.old))) lines.now))) }
     ensures files { T.files tree.new ≡ T.files tree.old }
+    ensures root { T.entered tree.new ≡ T.entered tree.old }
     ensures later { T.faults tree.old ≤ T.faults tree.new }
     ensures calm { OnOk result (T.faults tree.new ≡ T.faults tree.old) }
 {

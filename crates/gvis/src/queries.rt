@@ -10,11 +10,13 @@ ghost use Rattle.gv_expr.specs.Mentioned.{dep_mentions, req_mentions};
 ghost use Rattle.gv_expr.specs.Req.{reqs};
 ghost use Rattle.gv_entry.specs.Allowed.{is_free, parent_state};
 ghost use Rattle.gvis.specs.Judged.{case_of, parent_of};
-ghost use Rattle.gvis.specs.Queries.{class_flags, class_of, has_query, has_wide, is_wide, required_of};
+ghost use Rattle.gv_entry.specs.Queries.{class_flags};
+ghost use Rattle.gvis.specs.Queries.{class_of, has_query, has_wide, is_wide, required_of};
 
-use crate::classes::{class_in, classes};
+use crate::classes::classes;
 use crate::judged::Judged;
-use gv_base::{NoMemory, Text, Texts};
+use gv_base::{NoMemory, Text, Texts, in_order_law};
+use gv_entry::class_in;
 use gv_expr::{DepExpr, UseExpr, mentioned_dep, mentioned_required};
 use gv_facts::{Class, FlagState, has_class};
 use gv_usestate::state;
@@ -54,6 +56,7 @@ pub fn query_of<'a>(judged: &Judged<'a>, class: Class) -> Option<Query<'a>>
 fn mentioned(alloc: Global, query: &Query<'_>) -> Result<Texts, NoMemory>
     ensures { IfOk result (λ flags. flags ≡ in_order (req_mentions (reqs query.now.required.now) ++ dep_mentions (deps query.now.class.now))) }
 {
+    in_order_law();
     let mut flags = mentioned_required(alloc, query.required)?;
     let others = mentioned_dep(alloc, query.class)?;
     add_all(alloc, &mut flags, &others)?;

@@ -10,7 +10,7 @@ ghost use Rattle.gvis.specs.Reading.{refused, read, need, plain, absent, too_lar
 
 use crate::LoadFault;
 use crate::faults::{failed, missing, not_built};
-use gv_base::{Found, NoMemory, Text, Tree, TreeFault};
+use gv_base::{Found, NoMemory, Text, Tree, TreeFault, map_law};
 use std::alloc::Global;
 use std::collections::BTreeMap;
 use std::marker::Model;
@@ -47,6 +47,7 @@ impl Reader {
     fn get(&self, path: &[u8]) -> Option<&Found>
         ensures { option_copied result ≡ map.get self.now path.now }
     {
+        map_law::<Found>();
         match self.known.get(path) {
             Some(found) => Some(found),
             None => None,
@@ -56,6 +57,7 @@ impl Reader {
     fn put(&mut self, path: &Text, found: Found) -> Result<(), NoMemory>
         ensures { OnOk result (self.new ≡ map.insert self.old path.now found) }
     {
+        map_law::<Found>();
         let key = copy_bytes(self.alloc, path.bytes())?;
         self.known.insert(key, found)?;
         Ok(())
@@ -68,6 +70,7 @@ impl Reader {
         ensures passed { OnOk result (Passes (T.files tree.old) (refused (look_in (T.files tree.old)) (read path.now))) }
         ensures cause { IfErr result (Cause (T.files tree.old) (T.faults tree.old) (T.faults tree.new) (refused (look_in (T.files tree.old)) (read path.now))) }
         ensures files { T.files tree.new ≡ T.files tree.old }
+        ensures root { T.entered tree.new ≡ T.entered tree.old }
         ensures later { T.faults tree.old ≤ T.faults tree.new }
         ensures calm { OnOk result (T.faults tree.new ≡ T.faults tree.old) }
     {
@@ -91,6 +94,7 @@ impl Reader {
         ensures knows { OnOk result (Knows (T.files tree.old) self.new) }
         ensures cause { IfErr result (Cause (T.files tree.old) (T.faults tree.old) (T.faults tree.new) (refused (look_in (T.files tree.old)) (read path.now))) }
         ensures files { T.files tree.new ≡ T.files tree.old }
+        ensures root { T.entered tree.new ≡ T.entered tree.old }
         ensures later { T.faults tree.old ≤ T.faults tree.new }
         ensures calm { OnOk result (T.faults tree.new ≡ T.faults tree.old) }
     {
@@ -115,6 +119,7 @@ impl Reader {
         ensures knows { OnOk result (Knows (T.files tree.old) self.new) }
         ensures cause { IfErr result (Cause (T.files tree.old) (T.faults tree.old) (T.faults tree.new) (refused (look_in (T.files tree.old)) (read path.now))) }
         ensures files { T.files tree.new ≡ T.files tree.old }
+        ensures root { T.entered tree.new ≡ T.entered tree.old }
         ensures later { T.faults tree.old ≤ T.faults tree.new }
         ensures calm { OnOk result (T.faults tree.new ≡ T.faults tree.old) }
     {
@@ -134,6 +139,7 @@ impl Reader {
         ensures knows { OnOk result (Knows (T.files tree.old) self.new) }
         ensures cause { IfErr result (Cause (T.files tree.old) (T.faults tree.old) (T.faults tree.new) (refused (look_in (T.files tree.old)) (need path.now))) }
         ensures files { T.files tree.new ≡ T.files tree.old }
+        ensures root { T.entered tree.new ≡ T.entered tree.old }
         ensures later { T.faults tree.old ≤ T.faults tree.new }
         ensures calm { OnOk result (T.faults tree.new ≡ T.faults tree.old) }
     {
@@ -153,6 +159,7 @@ impl Reader {
         ensures knows { OnOk result (Knows (T.files tree.old) self.new) }
         ensures cause { IfErr result (Cause (T.files tree.old) (T.faults tree.old) (T.faults tree.new) (refused (look_in (T.files tree.old)) (plain path.now))) }
         ensures files { T.files tree.new ≡ T.files tree.old }
+        ensures root { T.entered tree.new ≡ T.entered tree.old }
         ensures later { T.faults tree.old ≤ T.faults tree.new }
         ensures calm { OnOk result (T.faults tree.new ≡ T.faults tree.old) }
     {
@@ -171,6 +178,7 @@ impl Reader {
         ensures knows { OnOk result (Knows (T.files tree.old) self.new) }
         ensures cause { IfErr result (Cause (T.files tree.old) (T.faults tree.old) (T.faults tree.new) (refused (look_in (T.files tree.old)) (absent path.now))) }
         ensures files { T.files tree.new ≡ T.files tree.old }
+        ensures root { T.entered tree.new ≡ T.entered tree.old }
         ensures later { T.faults tree.old ≤ T.faults tree.new }
         ensures calm { OnOk result (T.faults tree.new ≡ T.faults tree.old) }
     {
@@ -190,6 +198,7 @@ fn fetch<T: Tree>(alloc: Global, tree: &mut T, path: &Text) -> Result<Found, Loa
     ensures small { IfOk result (λ found. too_large path.now found ≡ None) }
     ensures cause { IfErr result (Cause (T.files tree.old) (T.faults tree.old) (T.faults tree.new) (refused (look_in (T.files tree.old)) (read path.now))) }
     ensures files { T.files tree.new ≡ T.files tree.old }
+    ensures root { T.entered tree.new ≡ T.entered tree.old }
     ensures later { T.faults tree.old ≤ T.faults tree.new }
     ensures calm { OnOk result (T.faults tree.new ≡ T.faults tree.old) }
 {

@@ -2,8 +2,8 @@
 //! contracts; how often they failed is.
 //!
 //! A call costs the system's calls; a file that is read is copied once.
-ghost use Rattle.std.specs.Prelude.{◌≡◌, ◌≤◌, ◌<◌, ◌^◌, length, IfOk, None};
-ghost use Rattle.gv_base.specs.Outside.{HasAtMost};
+ghost use Rattle.std.specs.Prelude.{◌≡◌, ◌≤◌, ◌<◌, ◌^◌, length, IfOk, [], None, Some};
+ghost use Rattle.gv_base.specs.Outside.{HasAtMost, most_file_bytes};
 
 use gv_base::{
     Failed, Found, MAX_FILE_BYTES, NoMemory, Sink, SinkFault, Source, Store, StoreFault, Text,
@@ -135,11 +135,15 @@ fn read_file<R: Files>(rt: &R, alloc: Global, path: &str, limit: u64) -> Result<
 }
 
 fn look<R: Files>(rt: &R, alloc: Global, path: &str) -> Result<Found, Trouble>
-    ensures { IfOk result (HasAtMost MAX_FILE_BYTES) }
+    ensures { IfOk result (HasAtMost most_file_bytes) }
 {
     let metadata = fs::metadata(rt, path).map_err(|e| trouble_of(&e))?;
     if metadata.is_dir() {
         return Ok(Found::Dir);
+    }
+    // Reading a pipe that nobody writes to never ends.
+    if !metadata.is_file() {
+        return Err(Trouble::Other);
     }
     Ok(Found::File(read_file(rt, alloc, path, MAX_FILE_BYTES)?))
 }
@@ -166,6 +170,10 @@ impl<R: Files + AllocGlobal + Clone + Drop> Tree for FsTree<R> {
     ghost files = { λ _. None };
 
     ghost faults = { λ t. t.faults };
+
+    ghost entered = { λ t. Some t.root };
+
+    ghost lent = { λ _. [] };
 
     fn enter(&mut self, alloc: Global, root: &Text) -> Result<(), NoMemory> {
         self.root = root.copy(alloc)?;

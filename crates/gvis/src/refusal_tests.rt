@@ -3,16 +3,20 @@ use crate::run_script::{append, begin, expect, perform, put};
 
 // What is no repository, and each condition of what isn't built.
 fn refusals() -> &'static [u8] {
-    b"new\n\
+    b"# no profiles.desc\n\
+new\n\
 ! gvis: not a repository: profiles/profiles.desc\n\
 = 6\n\
+# no categories\n\
 @profiles/profiles.desc\n\
 |amd64 base stable\n\
 ! gvis: not a repository: profiles/categories\n\
 = 6\n\
+# categories are a folder\n\
 @profiles/categories/x\n\
 ! gvis: not a repository: profiles/categories\n\
 = 6\n\
+# a parent\n\
 new\n\
 @profiles/profiles.desc\n\
 |amd64 base stable\n\
@@ -25,9 +29,11 @@ new\n\
 |../top\n\
 ! gvis: not built: profiles/base/parent\n\
 = 9\n\
+# package.mask before the parent\n\
 @profiles/package.mask\n\
 ! gvis: not built: profiles/package.mask\n\
 = 9\n\
+# use.mask is a folder\n\
 new\n\
 @profiles/profiles.desc\n\
 |amd64 base stable\n\
@@ -40,6 +46,7 @@ new\n\
 |a\n\
 ! gvis: not built: profiles/base/use.mask\n\
 = 9\n\
+# an atom asks for a flag\n\
 new\n\
 @profiles/profiles.desc\n\
 |amd64 base stable\n\
@@ -55,6 +62,7 @@ new\n\
 |RDEPEND=|| ( a? ( x/y[b] ) )\n\
 ! gvis: not built: metadata/md5-cache/app/p-1\n\
 = 9\n\
+# an earlier entry asks for one\n\
 @metadata/md5-cache/app/p-0.9\n\
 |EAPI=8\n\
 |SLOT=0\n\
@@ -63,9 +71,11 @@ new\n\
 |IDEPEND=x/y[b(+)]\n\
 ! gvis: not built: metadata/md5-cache/app/p-0.9\n\
 = 9\n\
+# a parent comes before entries\n\
 @profiles/base/parent\n\
 ! gvis: not built: profiles/base/parent\n\
 = 9\n\
+# names that are no PF, and broken classes\n\
 new\n\
 @profiles/profiles.desc\n\
 |amd64 base stable\n\
@@ -87,12 +97,14 @@ new\n\
 |PDEPEND=x/y[b] (\n\
 |BDEPEND=x/y[b]\n\
 = 0\n\
+# a folder in place of an entry\n\
 @metadata/md5-cache/app/q/p-1\n\
 |EAPI=8\n\
 |SLOT=0\n\
 |KEYWORDS=amd64\n\
 |RDEPEND=x/y[b]\n\
 = 0\n\
+# thirteen flags\n\
 new\n\
 @profiles/profiles.desc\n\
 |amd64 base stable\n\
@@ -110,6 +122,7 @@ new\n\
 |RDEPEND=g? ( ) h? ( ) i? ( ) j? ( ) k? ( ) l? ( ) !m? ( )\n\
 ! gvis: not built: app/p-1\n\
 = 9\n\
+# a broken REQUIRED_USE\n\
 @metadata/md5-cache/app/p-1\n\
 |EAPI=8\n\
 |SLOT=0\n\
@@ -118,6 +131,7 @@ new\n\
 |REQUIRED_USE=|| ( a b c d e f\n\
 |RDEPEND=g? ( ) h? ( ) i? ( ) j? ( ) k? ( ) l? ( ) !m? ( )\n\
 = 0\n\
+# a broken class\n\
 @metadata/md5-cache/app/p-1\n\
 |EAPI=8\n\
 |SLOT=0\n\
@@ -126,6 +140,7 @@ new\n\
 |REQUIRED_USE=|| ( a b c d e f )\n\
 |RDEPEND=g? ( ) h? ( ) i? ( ) j? ( ) k? ( ) l? ( ) !m? (\n\
 = 0\n\
+# an EAPI that isn't known\n\
 @metadata/md5-cache/app/p-1\n\
 |EAPI=8\n\
 |SLOT=0\n\

@@ -103,10 +103,11 @@ impl Members {
         }
     }
 
-    /// Adds a package with its body at the end.
+    /// Adds a package with its body at the end. After an error the list is unchanged.
     #[tactic(auto, using(crate::proofs::PairLemmas::paired_more))]
     pub fn add(&mut self, item: Member) -> Result<(), NoMemory>
-        ensures { OnOk result (self.new ≡ self.old ++ item ∷ []) }
+        ensures ok { OnOk result (self.new ≡ self.old ++ item ∷ []) }
+        ensures err { OnErr result (self.new ≡ self.old) }
     {
         let Member { pkg, body } = item;
         self.bodies.items.reserve(1)?;

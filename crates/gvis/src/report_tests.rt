@@ -1,13 +1,13 @@
 //! Runs that end with reports: worked repositories, and the pieces in which they are written.
 use crate::run_script::{Script, add_line, append, begin, begin_file, expect, perform, text};
-use crate::{least_of_all_assignments, reports_in_order};
 use gv_base::{Cut, next_piece};
 use std::alloc::Global;
 use std::process::Abort;
 
 // No package; an atom without a package; a dependency that is only tested, behind a flag; the same with the flag masked.
 fn worked() -> &'static [u8] {
-    b"new\n\
+    b"# no package\n\
+new\n\
 @profiles/profiles.desc\n\
 |amd64 base stable\n\
 @profiles/categories\n\
@@ -16,6 +16,11 @@ fn worked() -> &'static [u8] {
 @profiles/base/eapi\n\
 |8\n\
 = 0\n\
+# no report, and sinks that would fail\n\
+o 1\n\
+e 1\n\
+= 0\n\
+# an atom without a package\n\
 @metadata/md5-cache/app/p-1\n\
 |EAPI=8\n\
 |SLOT=0\n\
@@ -23,6 +28,7 @@ fn worked() -> &'static [u8] {
 |RDEPEND=x/y\n\
 > app/p-1: NonsolvableDepsInStable: RDEPEND: amd64 base stable: USE=\"\": x/y\n\
 = 1\n\
+# a dependency behind a flag\n\
 new\n\
 @profiles/profiles.desc\n\
 |amd64 base stable\n\
@@ -43,6 +49,7 @@ new\n\
 |KEYWORDS=~amd64\n\
 > app/p-1: NonsolvableDepsInStable: RDEPEND: amd64 base stable: USE=\"a\": a? ( x/y )\n\
 = 1\n\
+# the flag is masked\n\
 @profiles/base/use.mask\n\
 |a\n\
 = 0\n"
@@ -50,7 +57,8 @@ new\n\
 
 // Exactly one and at most one of two flags; a conditional that isn't enabled is no member; a broken REQUIRED_USE.
 fn choices() -> &'static [u8] {
-    b"new\n\
+    b"# exactly one\n\
+new\n\
 @profiles/profiles.desc\n\
 |amd64 base stable\n\
 @profiles/categories\n\
@@ -67,6 +75,7 @@ fn choices() -> &'static [u8] {
 |RDEPEND=b? ( x/none )\n\
 > app/p-1: NonsolvableDepsInStable: RDEPEND: amd64 base stable: USE=\"-a b\": b? ( x/none )\n\
 = 1\n\
+# at most one\n\
 @metadata/md5-cache/app/p-1\n\
 |EAPI=8\n\
 |SLOT=0\n\
@@ -75,6 +84,7 @@ fn choices() -> &'static [u8] {
 |REQUIRED_USE=?? ( a b ) !b\n\
 |RDEPEND=b? ( x/none )\n\
 = 0\n\
+# ^^ without members in EAPI 7\n\
 @metadata/md5-cache/app/p-1\n\
 |EAPI=7\n\
 |SLOT=0\n\
@@ -84,6 +94,7 @@ fn choices() -> &'static [u8] {
 |RDEPEND=x/none\n\
 > app/p-1: NonsolvableDepsInStable: RDEPEND: amd64 base stable: USE=\"a b\": x/none\n\
 = 1\n\
+# ^^ without members in EAPI 6\n\
 @metadata/md5-cache/app/p-1\n\
 |EAPI=6\n\
 |SLOT=0\n\
@@ -93,6 +104,7 @@ fn choices() -> &'static [u8] {
 |RDEPEND=x/none\n\
 > app/p-1: NonsolvableDepsInStable: RDEPEND: amd64 base stable: USE=\"-a -b\": x/none\n\
 = 1\n\
+# a broken REQUIRED_USE\n\
 @metadata/md5-cache/app/p-1\n\
 |EAPI=8\n\
 |SLOT=0\n\
@@ -105,7 +117,8 @@ fn choices() -> &'static [u8] {
 
 // A `||` without members under `-a`, in each EAPI.
 fn empty_any() -> &'static [u8] {
-    b"new\n\
+    b"# EAPI 5\n\
+new\n\
 @profiles/profiles.desc\n\
 |amd64 base stable\n\
 @profiles/categories\n\
@@ -121,6 +134,7 @@ fn empty_any() -> &'static [u8] {
 |RDEPEND=|| ( a? ( x/none ) )\n\
 > app/p-1: NonsolvableDepsInStable: RDEPEND: amd64 base stable: USE=\"a\": || ( a? ( x/none ) )\n\
 = 1\n\
+# EAPI 6\n\
 @metadata/md5-cache/app/p-1\n\
 |EAPI=6\n\
 |SLOT=0\n\
@@ -129,6 +143,7 @@ fn empty_any() -> &'static [u8] {
 |RDEPEND=|| ( a? ( x/none ) )\n\
 > app/p-1: NonsolvableDepsInStable: RDEPEND: amd64 base stable: USE=\"a\": || ( a? ( x/none ) )\n\
 = 1\n\
+# EAPI 7\n\
 @metadata/md5-cache/app/p-1\n\
 |EAPI=7\n\
 |SLOT=0\n\
@@ -137,6 +152,7 @@ fn empty_any() -> &'static [u8] {
 |RDEPEND=|| ( a? ( x/none ) )\n\
 > app/p-1: NonsolvableDepsInStable: RDEPEND: amd64 base stable: USE=\"-a\": || ( a? ( x/none ) )\n\
 = 1\n\
+# EAPI 8\n\
 @metadata/md5-cache/app/p-1\n\
 |EAPI=8\n\
 |SLOT=0\n\
@@ -149,7 +165,8 @@ fn empty_any() -> &'static [u8] {
 
 // 64 groups and 65, of which the latter is broken and isn't judged.
 fn nested() -> &'static [u8] {
-    b"new\n\
+    b"# 64 groups, met\n\
+new\n\
 @profiles/profiles.desc\n\
 |amd64 base stable\n\
 @profiles/categories\n\
@@ -167,12 +184,14 @@ fn nested() -> &'static [u8] {
 |KEYWORDS=amd64\n\
 |RDEPEND=( ( ( ( ( ( ( ( ( ( ( ( ( ( ( ( ( ( ( ( ( ( ( ( ( ( ( ( ( ( ( ( ( ( ( ( ( ( ( ( ( ( ( ( ( ( ( ( ( ( ( ( ( ( ( ( ( ( ( ( ( ( ( ( x/y ) ) ) ) ) ) ) ) ) ) ) ) ) ) ) ) ) ) ) ) ) ) ) ) ) ) ) ) ) ) ) ) ) ) ) ) ) ) ) ) ) ) ) ) ) ) ) ) ) ) ) ) ) ) ) ) ) ) ) ) ) ) ) )\n\
 = 0\n\
+# 65 groups, met\n\
 @metadata/md5-cache/app/p-1\n\
 |EAPI=8\n\
 |SLOT=0\n\
 |KEYWORDS=amd64\n\
 |RDEPEND=( ( ( ( ( ( ( ( ( ( ( ( ( ( ( ( ( ( ( ( ( ( ( ( ( ( ( ( ( ( ( ( ( ( ( ( ( ( ( ( ( ( ( ( ( ( ( ( ( ( ( ( ( ( ( ( ( ( ( ( ( ( ( ( ( x/y ) ) ) ) ) ) ) ) ) ) ) ) ) ) ) ) ) ) ) ) ) ) ) ) ) ) ) ) ) ) ) ) ) ) ) ) ) ) ) ) ) ) ) ) ) ) ) ) ) ) ) ) ) ) ) ) ) ) ) ) ) ) ) ) )\n\
 = 0\n\
+# 64 groups, not met\n\
 @metadata/md5-cache/app/p-1\n\
 |EAPI=8\n\
 |SLOT=0\n\
@@ -180,6 +199,7 @@ fn nested() -> &'static [u8] {
 |RDEPEND=( ( ( ( ( ( ( ( ( ( ( ( ( ( ( ( ( ( ( ( ( ( ( ( ( ( ( ( ( ( ( ( ( ( ( ( ( ( ( ( ( ( ( ( ( ( ( ( ( ( ( ( ( ( ( ( ( ( ( ( ( ( ( ( x/none ) ) ) ) ) ) ) ) ) ) ) ) ) ) ) ) ) ) ) ) ) ) ) ) ) ) ) ) ) ) ) ) ) ) ) ) ) ) ) ) ) ) ) ) ) ) ) ) ) ) ) ) ) ) ) ) ) ) ) ) ) ) ) )\n\
 > app/p-1: NonsolvableDepsInStable: RDEPEND: amd64 base stable: USE=\"\": ( ( ( ( ( ( ( ( ( ( ( ( ( ( ( ( ( ( ( ( ( ( ( ( ( ( ( ( ( ( ( ( ( ( ( ( ( ( ( ( ( ( ( ( ( ( ( ( ( ( ( ( ( ( ( ( ( ( ( ( ( ( ( ( x/none ) ) ) ) ) ) ) ) ) ) ) ) ) ) ) ) ) ) ) ) ) ) ) ) ) ) ) ) ) ) ) ) ) ) ) ) ) ) ) ) ) ) ) ) ) ) ) ) ) ) ) ) ) ) ) ) ) ) ) ) ) ) ) )\n\
 = 1\n\
+# 65 groups, not met\n\
 @metadata/md5-cache/app/p-1\n\
 |EAPI=8\n\
 |SLOT=0\n\
@@ -228,7 +248,8 @@ fn levels() -> &'static [u8] {
 
 // Slots, operators, blockers.
 fn slots() -> &'static [u8] {
-    b"new\n\
+    b"# slots and operators\n\
+new\n\
 @profiles/profiles.desc\n\
 |amd64 base stable\n\
 @profiles/categories\n\
@@ -246,6 +267,7 @@ fn slots() -> &'static [u8] {
 |KEYWORDS=amd64\n\
 |RDEPEND=x/y:2 x/y:2/3= x/y:* x/y:= ~x/y-1.10 !x/y !!x/none || ( x/none =x/y-1* )\n\
 = 0\n\
+# another slot\n\
 @metadata/md5-cache/app/p-1\n\
 |EAPI=8\n\
 |SLOT=0\n\
@@ -253,6 +275,7 @@ fn slots() -> &'static [u8] {
 |RDEPEND=x/y:3\n\
 > app/p-1: NonsolvableDepsInStable: RDEPEND: amd64 base stable: USE=\"\": x/y:3\n\
 = 1\n\
+# another sub-slot\n\
 @metadata/md5-cache/app/p-1\n\
 |EAPI=8\n\
 |SLOT=0\n\
@@ -387,7 +410,8 @@ fn compare_all<R: Abort>(rt: &R, alloc: Global) {
 
 // A sink of few bytes a call, one that fails, and err that fails too.
 fn pieces() -> &'static [u8] {
-    b"new\n\
+    b"# a byte a call\n\
+new\n\
 @profiles/profiles.desc\n\
 |amd64 base stable\n\
 @profiles/categories\n\
@@ -403,17 +427,20 @@ fn pieces() -> &'static [u8] {
 m 1\n\
 > app/p-1: NonsolvableDepsInStable: RDEPEND: amd64 base stable: USE=\"\": x/y\n\
 = 1\n\
+# out fails\n\
 m 5\n\
 o 2\n\
 > app/p~\n\
 ! gvis: fault: output\n\
 = 3\n\
+# out and err fail\n\
 m 5\n\
 o 2\n\
 e 2\n\
 > app/p~\n\
 ! gvis:~\n\
 = 3\n\
+# both fail at once\n\
 m 5\n\
 o 1\n\
 e 1\n\
@@ -422,9 +449,7 @@ e 1\n\
 
 #[test]
 fn prints_the_worked_reports(rt: HostRuntime) {
-    perform(&rt, rt.alloc(), worked(), 4);
-    least_of_all_assignments();
-    reports_in_order();
+    perform(&rt, rt.alloc(), worked(), 5);
 }
 
 #[test]

@@ -1,14 +1,12 @@
 //! The reports of a judged package: for each query that fails, the least assignment under which it does.
 ghost use Rattle.std.specs.Prelude.{◌≡◌, ◌++◌, [], codes, if◌then◌else◌, option_map, unwrap_or, fold, filter_map, IfOk, OnOk};
-ghost use Rattle.std.specs.BTreeSet.{insert_key};
 ghost use Rattle.gv_base.specs.Words.{joined};
 ghost use Rattle.gv_expr.specs.DepGrammar.{item_text};
 ghost use Rattle.gv_entry.specs.Allowed.{first_failing};
 ghost use Rattle.gv_visible.specs.Told.{test_of};
 ghost use Rattle.gvis.specs.Judged.{AreAround, case_of, on_of, parent_of};
 ghost use Rattle.gvis.specs.Queries.{class_of, flags_of};
-ghost use Rattle.gvis.specs.ReportOrder.{report_cmp};
-ghost use Rattle.gvis.specs.RepoReports.{case_reports, context_of, nonsolvable, query_keyword, query_report, subject_of, witness_words};
+ghost use Rattle.gvis.specs.RepoReports.{case_reports, context_of, nonsolvable, query_keyword, query_report, subject_of, with_report, witness_words};
 
 use crate::assignment::Assignment;
 use crate::classes::classes;
@@ -16,34 +14,21 @@ use crate::holds::first_failing;
 use crate::judged::Judged;
 use crate::least::least_failing;
 use crate::queries::{Query, flags_of, query_of};
-use crate::report::{ContextName, Keyword, Report, Subject};
 use gv_base::{NoMemory, Text, Texts};
 use gv_expr::{DepExpr, print_item};
 use gv_facts::{Class, Pkg, Status};
-use gv_version::{Version, VersionFault, read_version};
+use gv_report::{ContextName, Keyword, Report, Reports, Subject};
 use gv_visible::Candidates;
 use std::alloc::Global;
-use std::collections::BTreeSet;
-
-// The same version once more: its text is read again.
-fn copy_version(alloc: Global, version: &Version) -> Result<Version, NoMemory>
-    ensures { IfOk result (λ copied. copied ≡ version.now) }
-{
-    match read_version(alloc, version.text()) {
-        Ok(version) => Ok(version),
-        Err(VersionFault::NoMemory) => Err(NoMemory),
-        Err(_) => unreachable!(),
-    }
-}
 
 /// The package as the subject of a report.
 pub fn subject_of(alloc: Global, pkg: &Pkg) -> Result<Subject, NoMemory>
     ensures { IfOk result (λ subject. subject ≡ subject_of pkg.now) }
 {
-    Ok(Subject {
+    Ok(Subject::Package {
         category: pkg.category.copy(alloc)?,
         name: pkg.name.copy(alloc)?,
-        version: copy_version(alloc, &pkg.version)?,
+        version: pkg.version.copy(alloc)?,
         pf: pkg.pf.copy(alloc)?,
     })
 }
@@ -144,10 +129,10 @@ fn nonsolvable<F: Fn(&Pkg) -> bool>(
     Ok(Report {
         subject: subject_of(alloc, judged.pkg)?,
         keyword: query_keyword(judged.profile.status),
-        class,
-        context: context_of(alloc, judged)?,
-        witness: witness_of(alloc, flags.items(), bits)?,
-        detail: detail_of(alloc, candidates, query.class, &on)?,
+        class: Some(class),
+        context: Some(context_of(alloc, judged)?),
+        witness: Some(witness_of(alloc, flags.items(), bits)?),
+        detail: Some(detail_of(alloc, candidates, query.class, &on)?),
     })
 }
 
@@ -178,14 +163,14 @@ fn add_reports<F: Fn(&Pkg) -> bool>(
     candidates: &Candidates<'_, F>,
     judged: &Judged<'_>,
     classes: &[Class],
-    reports: &mut BTreeSet<Report>,
+    reports: &mut Reports,
 ) -> Result<(), NoMemory>
     requires { AreAround (F.pre (test_of candidates.now)) (F.post (test_of candidates.now)) candidates.now judged.now }
-    ensures { OnOk result (reports.new.keys ≡ fold (insert_key report_cmp) reports.old.keys (filter_map (query_report (case_of judged.now)) classes.now)) }
+    ensures { OnOk result (reports.new ≡ fold with_report reports.old (filter_map (query_report (case_of judged.now)) classes.now)) }
 {
     for class in classes {
         if let Some(report) = query_report(alloc, candidates, judged, *class)? {
-            reports.insert(report)?;
+            reports.add(report)?;
         }
     }
     Ok(())
@@ -196,10 +181,10 @@ pub fn add_case_reports<F: Fn(&Pkg) -> bool>(
     alloc: Global,
     candidates: &Candidates<'_, F>,
     judged: &Judged<'_>,
-    reports: &mut BTreeSet<Report>,
+    reports: &mut Reports,
 ) -> Result<(), NoMemory>
     requires { AreAround (F.pre (test_of candidates.now)) (F.post (test_of candidates.now)) candidates.now judged.now }
-    ensures { OnOk result (reports.new.keys ≡ fold (insert_key report_cmp) reports.old.keys (case_reports (case_of judged.now))) }
+    ensures { OnOk result (reports.new ≡ fold with_report reports.old (case_reports (case_of judged.now))) }
 {
     add_reports(alloc, candidates, judged, &classes(), reports)
 }

@@ -11,14 +11,15 @@ use std::marker::Brand;
 use std::process::Abort;
 use std::sync::ledger::Blank;
 
-// What the lines before a run say. `@PATH` begins a file and each `|` behind it is a line of it; `new` takes all files
-// away. `$` has the words, with one space between; without it they are `scan R --certs C`. `m`, `t`, `o` and
+// What the lines before a run say. `# NAME` names the runs behind it, and is printed where one goes wrong. `@PATH` begins
+// a file and each `|` behind it is a line of it; `new` takes all files away. `$` has the words, with one space between; without it they are `scan R --certs C`. `m`, `t`, `o` and
 // `e` give the bytes that a sink takes in a call and the numbers of the calls that fail. `>` is a line that stands on
 // out and `!` one on err; `~` at its end says that it has no line feed. `= STATUS` runs, and forgets all
 // but the files.
 #[derive(Drop)]
 pub(crate) struct Script {
     pub files: Files,
+    name: Text,
     path: Text,
     words: Text,
     most: u32,
@@ -41,13 +42,25 @@ pub(crate) fn put<R: Abort>(rt: &R, files: &mut Files, path: &[u8], bytes: &[u8]
     files.put(path, bytes).expect(rt, "memory");
 }
 
-fn same<R: Abort>(rt: &R, got: &[u8], want: &[u8]) {
-    assert_eq!(rt; got, want);
+fn shown(bytes: &[u8]) -> &str {
+    std::str::from_utf8(bytes).unwrap_or("no text")
+}
+
+// How a run ended: its name, its status, what stands on err and what stands on out.
+fn told<R: Abort>(rt: &R, alloc: Global, name: &Text, status: u32, err: &[u8], out: &[u8]) -> Text {
+    let mut told = text(rt, alloc, name.bytes());
+    append(rt, &mut told, b": ");
+    append(rt, &mut told, &[b'0' + status.min(9) as u8]);
+    append(rt, &mut told, b"\n");
+    append(rt, &mut told, err);
+    append(rt, &mut told, out);
+    told
 }
 
 pub(crate) fn begin<R: Abort>(rt: &R, alloc: Global) -> Script {
     Script {
         files: Files::new(alloc),
+        name: text(rt, alloc, b""),
         path: text(rt, alloc, b""),
         words: text(rt, alloc, b"scan R --certs C"),
         most: 4096,
@@ -59,7 +72,7 @@ pub(crate) fn begin<R: Abort>(rt: &R, alloc: Global) -> Script {
     }
 }
 
-// All but the files.
+// All but the files and the name.
 fn forget<R: Abort>(rt: &R, alloc: Global, script: &mut Script) {
     script.path = text(rt, alloc, b"");
     script.words = text(rt, alloc, b"scan R --certs C");
@@ -110,6 +123,7 @@ fn add_output<R: Abort>(rt: &R, text: &mut Text, line: &[u8]) {
 // Takes a line that says what a run has.
 fn take<R: Abort>(rt: &R, alloc: Global, script: &mut Script, line: &[u8]) {
     match line {
+        [b'#', b' ', rest @ ..] => script.name = text(rt, alloc, rest),
         [b'@', path @ ..] => begin_file(rt, alloc, script, path),
         [b'|', rest @ ..] => add_line(rt, alloc, script, rest),
         [b'$', b' ', rest @ ..] => script.words = text(rt, alloc, rest),
@@ -168,9 +182,17 @@ fn run_on<L: Ledger, R: Abort>(rt: &R, alloc: Global, blank: Blank, script: &Scr
     let got = run(
         alloc, &words, &mut tree, &mut store, &mut input, &mut out, &mut err, &mut steps,
     );
-    same(rt, err.held(), script.err.bytes());
-    same(rt, out.held(), script.out.bytes());
-    assert_eq!(rt; got as u32, status);
+    let got = told(rt, alloc, &script.name, got as u32, err.held(), out.held());
+    let want = told(
+        rt,
+        alloc,
+        &script.name,
+        status,
+        script.err.bytes(),
+        script.out.bytes(),
+    );
+    assert_eq!(rt; shown(got.bytes()), shown(want.bytes()));
+    assert_eq!(rt; got.bytes(), want.bytes());
 }
 
 pub(crate) fn expect<R: Abort>(rt: &R, alloc: Global, script: &Script, status: u32) {

@@ -1,8 +1,10 @@
 //! The top call: all that the program does, over any outside.
-ghost use Rattle.std.specs.Prelude.{◌≡◌, ◌<◌, ◌⊎◌, true, false, IfSome};
+ghost use Rattle.std.specs.Prelude.{◌≡◌, ◌⊎◌, true, false, IfSome};
 ghost use Rattle.gv_base.specs.Causes.{Rose};
+ghost use Rattle.gvis.specs.Endings.{told};
 ghost use Rattle.gvis.specs.Look.{look_of};
-ghost use Rattle.gvis.specs.Run.{scan_of, said_by, world, GainsText, SaysNoRepository, SaysNotBuilt, Runs};
+ghost use Rattle.gvis.specs.Run.{world, Leaves};
+ghost use Rattle.gvis.specs.Scan.{scan_of, said_by};
 ghost use Rattle.gvis.specs.Words.{is_scan};
 
 use crate::scanning::scan;
@@ -26,25 +28,19 @@ pub fn run<T: Tree, K: Store, I: Source, S: Sink, E: Sink, L: Ledger>(
     err: &mut E,
     steps: &mut Steps<L>,
 ) -> u8
-    ensures runs { Runs words.now
-        (world (T.files tree.old) (T.faults tree.old) (S.held out.old) (S.faults out.old))
-        (world (T.files tree.new) (T.faults tree.new) (S.held out.new) (S.faults out.new))
-        (E.held err.old) (E.held err.new) (E.faults err.old) (E.faults err.new) result }
+    // What it leaves, by the status.
+    ensures leaves { Leaves words.now
+        (world (T.entered tree.old) (T.files tree.old) (T.faults tree.old) (S.held out.old) (S.faults out.old))
+        (world (T.entered tree.new) (T.files tree.new) (T.faults tree.new) (S.held out.new) (S.faults out.new))
+        (told (E.held err.old) (E.held err.new) (E.faults err.old) (E.faults err.new)) result }
 
-    // What isn't touched.
+    // What isn't touched, whatever the status.
     ensures store { store.new ≡ store.old }
     ensures input { input.new ≡ input.old }
     ensures steps { steps.new ≡ steps.old }
 
-    // The same, by the status.
-    ensures report { result < 2 → GainsText (T.files tree.old) (S.held out.old) (S.held out.new) result }
-    ensures bad_words { result ≡ 2 → is_scan words.now ≡ false }
+    // Bad words are told. Good words and no fault give what the files say.
     ensures bad_words_only { is_scan words.now ≡ false → (result ≡ 2) ⊎ (result ≡ 5) }
-    ensures fault { result ≡ 3 → Rose (T.faults tree.old) (T.faults tree.new) ⊎ Rose (S.faults out.old) (S.faults out.new) }
-    ensures not_a_repository { result ≡ 6 → SaysNoRepository (T.files tree.old) (E.held err.old) (E.held err.new) (E.faults err.old) (E.faults err.new) }
-    ensures not_built { result ≡ 9 → SaysNotBuilt (T.files tree.old) (E.held err.old) (E.held err.new) (E.faults err.old) (E.faults err.new) }
-
-    // Good words and no fault give what the files say.
     ensures complete { is_scan words.now ≡ true → (Rose (T.faults tree.old) (T.faults tree.new) → ⊥) → (Rose (S.faults out.old) (S.faults out.new) → ⊥)
         → IfSome (T.files tree.old) (λ files. (result ≡ said_by (scan_of (look_of files))) ⊎ (result ≡ 5)) }
 {

@@ -2,10 +2,13 @@
 ghost use Rattle.std.specs.Prelude.{◌≡◌, ◌≤◌, Ok, IfOk, IfErr, OnOk, OnErr};
 ghost use Rattle.gv_base.specs.Outside.{gains};
 ghost use Rattle.gvis.specs.RepoReports.{scan_text, first_wide};
-ghost use Rattle.gvis.specs.Run.{world, IsText, IsLoaded, GainsFront, ReadCause, WideCause, WriteCause, Scans};
+ghost use Rattle.gvis.specs.Endings.{GainsFront};
+ghost use Rattle.gvis.specs.Run.{world, Scans};
+ghost use Rattle.gvis.specs.Scan.{IsText};
+ghost use Rattle.gvis.specs.ScanSteps.{IsLoaded, ReadCause, WideCause, WriteCause, ScansRoot};
 
 use crate::output::put_all;
-use crate::words::read_words;
+use crate::words::root_of;
 use crate::{JudgeFault, LoadFault, Refusal, Repo, load, report_text};
 use gv_base::{Sink, SinkFault, Text, Texts, Tree};
 use std::alloc::Global;
@@ -15,6 +18,7 @@ fn read<T: Tree>(alloc: Global, tree: &mut T) -> Result<Repo, Refusal>
     ensures repo { IfOk result (IsLoaded (T.files tree.old)) }
     ensures cause { IfErr result (ReadCause (T.files tree.old) (T.faults tree.old) (T.faults tree.new)) }
     ensures files { T.files tree.new ≡ T.files tree.old }
+    ensures root { T.entered tree.new ≡ T.entered tree.old }
     ensures later { T.faults tree.old ≤ T.faults tree.new }
     ensures calm { OnOk result (T.faults tree.new ≡ T.faults tree.old) }
 {
@@ -45,17 +49,12 @@ fn report<T: Tree>(alloc: Global, tree: &mut T) -> Result<Text, Refusal>
     ensures text { IfOk result (IsText (T.files tree.old)) }
     ensures cause { IfErr result (ReadCause (T.files tree.old) (T.faults tree.old) (T.faults tree.new)) }
     ensures files { T.files tree.new ≡ T.files tree.old }
+    ensures root { T.entered tree.new ≡ T.entered tree.old }
     ensures later { T.faults tree.old ≤ T.faults tree.new }
     ensures calm { OnOk result (T.faults tree.new ≡ T.faults tree.old) }
 {
-    let repo = match read(alloc, tree) {
-        Ok(repo) => repo,
-        Err(refusal) => return Err(refusal),
-    };
-    match judge(alloc, &repo) {
-        Ok(text) => Ok(text),
-        Err(refusal) => Err(refusal),
-    }
+    let repo = read(alloc, tree)?;
+    judge(alloc, &repo)
 }
 
 fn write<S: Sink>(out: &mut S, text: &Text) -> Result<(), Refusal>
@@ -63,6 +62,7 @@ fn write<S: Sink>(out: &mut S, text: &Text) -> Result<(), Refusal>
     ensures err { OnErr result (GainsFront (S.held out.old) (S.held out.new) text.now) }
     ensures cause { IfErr result (WriteCause (S.faults out.old) (S.faults out.new)) }
     ensures later { S.faults out.old ≤ S.faults out.new }
+    ensures calm { OnOk result (S.faults out.new ≡ S.faults out.old) }
 {
     match put_all(out, text.bytes()) {
         Ok(()) => Ok(()),
@@ -71,7 +71,21 @@ fn write<S: Sink>(out: &mut S, text: &Text) -> Result<(), Refusal>
     }
 }
 
+// Scans the root that was entered.
+#[tactic(auto, using(crate::proofs::Scanned::read_stops, crate::proofs::Scanned::write_stops))]
+fn scan_root<T: Tree, S: Sink>(alloc: Global, tree: &mut T, out: &mut S) -> Result<bool, Refusal>
+    ensures { ScansRoot
+        (world (T.entered tree.old) (T.files tree.old) (T.faults tree.old) (S.held out.old) (S.faults out.old))
+        (world (T.entered tree.new) (T.files tree.new) (T.faults tree.new) (S.held out.new) (S.faults out.new))
+        result }
+{
+    let text = report(alloc, tree)?;
+    write(out, &text)?;
+    Ok(!text.bytes().is_empty())
+}
+
 /// Scans, and answers whether there are reports.
+#[tactic(auto, using(crate::proofs::Scanned::scans))]
 pub(crate) fn scan<T: Tree, S: Sink>(
     alloc: Global,
     words: &Texts,
@@ -79,17 +93,15 @@ pub(crate) fn scan<T: Tree, S: Sink>(
     out: &mut S,
 ) -> Result<bool, Refusal>
     ensures { Scans words.now
-        (world (T.files tree.old) (T.faults tree.old) (S.held out.old) (S.faults out.old))
-        (world (T.files tree.new) (T.faults tree.new) (S.held out.new) (S.faults out.new))
+        (world (T.entered tree.old) (T.files tree.old) (T.faults tree.old) (S.held out.old) (S.faults out.old))
+        (world (T.entered tree.new) (T.files tree.new) (T.faults tree.new) (S.held out.new) (S.faults out.new))
         result }
 {
-    let Some(asked) = read_words(words) else {
+    let Some(root) = root_of(words) else {
         return Err(Refusal::BadWords);
     };
-    if tree.enter(alloc, asked.root).is_err() {
+    if tree.enter(alloc, root).is_err() {
         return Err(Refusal::NoMemory);
     }
-    let text = report(alloc, tree)?;
-    write(out, &text)?;
-    Ok(!text.bytes().is_empty())
+    scan_root(alloc, tree, out)
 }

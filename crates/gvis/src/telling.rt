@@ -1,55 +1,64 @@
 //! The line and the status of a run's end.
-ghost use Rattle.std.specs.Prelude.{◌≡◌, ◌++◌, IfOk, OnOk};
-ghost use Rattle.gvis.specs.Run.{status_of, line_of, refusal_line, Told};
+ghost use Rattle.std.specs.Prelude.{◌≡◌, ◌≤◌, ◌++◌, IfOk, IfErr, OnOk};
+ghost use Rattle.gvis.specs.Endings.{told, well_status, refusal_status, refusal_line, refusal_text, SaysNothing, TellsRefusal};
 
 use crate::Refusal;
 use crate::output::put_all;
 use gv_base::{NoMemory, Sink, SinkFault, Text};
 use std::alloc::Global;
 
-/// Writes the line of an ending, and answers its status.
+/// The status of an ending. A refusal's line is written; an end without one takes no memory and makes no call.
 pub(crate) fn tell<E: Sink>(alloc: Global, ending: &Result<bool, Refusal>, err: &mut E) -> u8
-    ensures { Told (E.held err.old) (E.held err.new) (E.faults err.old) (E.faults err.new) ending.now result }
-{
-    let Ok(line) = line(alloc, ending) else {
-        return 5;
-    };
-    match put_all(err, line.bytes()) {
-        Err(SinkFault::NoMemory) => 5,
-        _ => status(ending),
-    }
-}
-
-fn status(ending: &Result<bool, Refusal>) -> u8
-    ensures { result ≡ status_of ending.now }
+    ensures well { IfOk ending.now (λ some. (result ≡ well_status some) × SaysNothing (told (E.held err.old) (E.held err.new) (E.faults err.old) (E.faults err.new))) }
+    ensures refused { IfErr ending.now (λ refusal. TellsRefusal (told (E.held err.old) (E.held err.new) (E.faults err.old) (E.faults err.new)) refusal result) }
+    ensures later { E.faults err.old ≤ E.faults err.new }
 {
     match ending {
         Ok(false) => 0,
         Ok(true) => 1,
-        Err(Refusal::BadWords) => 2,
-        Err(Refusal::TreeFailed { .. }) => 3,
-        Err(Refusal::OutputFailed) => 3,
-        Err(Refusal::NoMemory) => 5,
-        Err(Refusal::NotARepository { .. }) => 6,
-        Err(Refusal::NotBuilt { .. }) => 9,
+        Err(refusal) => tell_refusal(alloc, refusal, err),
     }
 }
 
-// The line of an ending, or nothing.
-fn line(alloc: Global, ending: &Result<bool, Refusal>) -> Result<Text, NoMemory>
-    ensures { IfOk result (λ line. line ≡ line_of ending.now) }
+// Writes the line of a refusal, and answers its status.
+fn tell_refusal<E: Sink>(alloc: Global, refusal: &Refusal, err: &mut E) -> u8
+    ensures told { TellsRefusal (told (E.held err.old) (E.held err.new) (E.faults err.old) (E.faults err.new)) refusal.now result }
+    ensures later { E.faults err.old ≤ E.faults err.new }
+{
+    let Ok(line) = line(alloc, refusal) else {
+        return 5;
+    };
+    match put_all(err, line.bytes()) {
+        Ok(()) => status(refusal),
+        Err(SinkFault::Failed) => status(refusal),
+        Err(SinkFault::NoMemory) => 5,
+    }
+}
+
+fn status(refusal: &Refusal) -> u8
+    ensures { result ≡ refusal_status refusal.now }
+{
+    match refusal {
+        Refusal::BadWords => 2,
+        Refusal::TreeFailed { .. } => 3,
+        Refusal::OutputFailed => 3,
+        Refusal::NoMemory => 5,
+        Refusal::NotARepository { .. } => 6,
+        Refusal::NotBuilt { .. } => 9,
+    }
+}
+
+fn line(alloc: Global, refusal: &Refusal) -> Result<Text, NoMemory>
+    ensures { IfOk result (λ line. line ≡ refusal_line refusal.now) }
 {
     let mut line = Text::of(alloc, &[])?;
-    let Err(refusal) = ending else {
-        return Ok(line);
-    };
     append_refusal(&mut line, refusal)?;
     line.append(b"\n")?;
     Ok(line)
 }
 
 fn append_refusal(line: &mut Text, refusal: &Refusal) -> Result<(), NoMemory>
-    ensures { OnOk result (line.new ≡ line.old ++ refusal_line refusal.now) }
+    ensures { OnOk result (line.new ≡ line.old ++ refusal_text refusal.now) }
 {
     match refusal {
         Refusal::BadWords => line.append(b"gvis: bad command line"),

@@ -6,9 +6,9 @@ ghost use Rattle.gv_expr.specs.DepView.{dep_of};
 ghost use Rattle.gv_expr.specs.Mentioned.{wanted_atoms};
 ghost use Rattle.gvis.specs.UseAsked.{asks_use, body_asks_use, class_asks_use, has_items};
 
-use crate::classes::{class_in, classes};
+use crate::classes::classes;
 use gv_atom::{Atom, Block};
-use gv_entry::Body;
+use gv_entry::{Body, class_in};
 use gv_expr::{DepExpr, DepTree};
 use gv_facts::Class;
 

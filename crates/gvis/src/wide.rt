@@ -1,26 +1,23 @@
 //! Which package has a query of too many flags: the first of them in package order is told, and nothing is judged then.
 //!
 //! Each package is looked at in each profile and at each level, and costs its queries' flags where it is judged there.
-ghost use Rattle.std.specs.Prelude.{◌≡◌, [], flat_map, fold, IfOk, OnOk};
-ghost use Rattle.std.specs.BTreeSet.{insert_key};
+ghost use Rattle.std.specs.Prelude.{◌≡◌, [], None, Some, flat_map, fold, if◌then◌else◌, IfOk, OnOk};
 ghost use Rattle.std.specs.Option.{option_map_or};
 ghost use Rattle.gv_facts.specs.Visible.{judged};
 ghost use Rattle.gvis.specs.Cases.{case_at, cases_at, cases_in, is_level};
 ghost use Rattle.gvis.specs.Judged.{case_of};
-ghost use Rattle.gvis.specs.ReportOrder.{subject_cmp};
-ghost use Rattle.gvis.specs.RepoReports.{first_wide, wide_of, wide_subjects};
+ghost use Rattle.gvis.specs.RepoReports.{first_subject, first_wide, wide_of, wide_subjects};
 
 use crate::Repo;
 use crate::judged::Judged;
 use crate::queries::has_wide;
-use crate::report::Subject;
 use crate::reporting::subject_of;
 use gv_base::{NoMemory, Text};
 use gv_entry::Body;
 use gv_facts::{Level, Pkg, Profile};
+use gv_report::Subject;
 use gv_visible::judged;
 use std::alloc::Global;
-use std::collections::BTreeSet;
 
 /// Whether the profile judges the package, and at this level.
 pub fn is_judged_at(pkg: &Pkg, profile: &Profile, level: Level) -> bool
@@ -33,15 +30,24 @@ pub fn is_judged_at(pkg: &Pkg, profile: &Profile, level: Level) -> bool
     }
 }
 
-fn add_wide(
-    alloc: Global,
-    judged: &Judged<'_>,
-    wide: &mut BTreeSet<Subject>,
-) -> Result<(), NoMemory>
-    ensures { OnOk result (wide.new.keys ≡ fold (insert_key subject_cmp) wide.old.keys (wide_of (case_of judged.now))) }
+// Whether the subject comes before the first one so far.
+fn comes_first(subject: &Subject, first: &Option<Subject>) -> bool
+    ensures { first_subject first.now subject.now ≡ (if result then Some subject.now else first.now) }
+{
+    match first {
+        None => true,
+        Some(first) => subject.compare(first).is_lt(),
+    }
+}
+
+fn add_wide(alloc: Global, judged: &Judged<'_>, first: &mut Option<Subject>) -> Result<(), NoMemory>
+    ensures { OnOk result (first.new ≡ fold first_subject first.old (wide_of (case_of judged.now))) }
 {
     if has_wide(alloc, judged)? {
-        wide.insert(subject_of(alloc, judged.pkg)?)?;
+        let subject = subject_of(alloc, judged.pkg)?;
+        if comes_first(&subject, first) {
+            *first = Some(subject);
+        }
     }
     Ok(())
 }
@@ -53,9 +59,9 @@ fn add_pkg_wide(
     level: Level,
     pkg: &Pkg,
     body: &Body,
-    wide: &mut BTreeSet<Subject>,
+    first: &mut Option<Subject>,
 ) -> Result<(), NoMemory>
-    ensures { OnOk result (wide.new.keys ≡ fold (insert_key subject_cmp) wide.old.keys (option_map_or wide_of (case_at repo.now.pkgs profile.now level (record { pkg = pkg.now; body = body.now })) [])) }
+    ensures { OnOk result (first.new ≡ fold first_subject first.old (option_map_or wide_of (case_at repo.now.pkgs profile.now level (record { pkg = pkg.now; body = body.now })) [])) }
 {
     if !is_judged_at(pkg, profile, level) {
         return Ok(());
@@ -67,7 +73,7 @@ fn add_pkg_wide(
         profile,
         level,
     };
-    add_wide(alloc, &judged, wide)
+    add_wide(alloc, &judged, first)
 }
 
 #[tactic(auto, using(crate::proofs::CaseLemmas::next_member, crate::proofs::CaseLemmas::no_bodies))]
@@ -76,16 +82,16 @@ fn add_level_wide(
     repo: &Repo,
     profile: &Profile,
     level: Level,
-    wide: &mut BTreeSet<Subject>,
+    first: &mut Option<Subject>,
 ) -> Result<(), NoMemory>
-    ensures { OnOk result (wide.new.keys ≡ fold (insert_key subject_cmp) wide.old.keys (flat_map wide_of (cases_at repo.now profile.now level))) }
+    ensures { OnOk result (first.new ≡ fold first_subject first.old (flat_map wide_of (cases_at repo.now profile.now level))) }
 {
     let bodies = repo.bodies.items();
     for (i, pkg) in repo.pkgs.items().iter().enumerate() {
         if i >= bodies.len() {
             return Ok(());
         }
-        add_pkg_wide(alloc, repo, profile, level, pkg, &bodies[i], wide)?;
+        add_pkg_wide(alloc, repo, profile, level, pkg, &bodies[i], first)?;
     }
     Ok(())
 }
@@ -95,34 +101,33 @@ fn add_profile_wide(
     alloc: Global,
     repo: &Repo,
     profile: &Profile,
-    wide: &mut BTreeSet<Subject>,
+    first: &mut Option<Subject>,
 ) -> Result<(), NoMemory>
-    ensures { OnOk result (wide.new.keys ≡ fold (insert_key subject_cmp) wide.old.keys (flat_map wide_of (cases_in repo.now profile.now))) }
+    ensures { OnOk result (first.new ≡ fold first_subject first.old (flat_map wide_of (cases_in repo.now profile.now))) }
 {
-    add_level_wide(alloc, repo, profile, Level::Stable, wide)?;
-    add_level_wide(alloc, repo, profile, Level::Testing, wide)
+    add_level_wide(alloc, repo, profile, Level::Stable, first)?;
+    add_level_wide(alloc, repo, profile, Level::Testing, first)
 }
 
 #[tactic(auto, using(crate::proofs::CaseLemmas::next_profile))]
-fn wide_of(alloc: Global, repo: &Repo) -> Result<BTreeSet<Subject>, NoMemory>
-    ensures { IfOk result (λ wide. wide.keys ≡ fold (insert_key subject_cmp) [] (wide_subjects repo.now)) }
+fn first_of(alloc: Global, repo: &Repo) -> Result<Option<Subject>, NoMemory>
+    ensures { IfOk result (λ first. first ≡ fold first_subject None (wide_subjects repo.now)) }
 {
-    let mut wide = BTreeSet::new(alloc);
+    let mut first = None;
     for profile in repo.profiles.items() {
-        add_profile_wide(alloc, repo, profile, &mut wide)?;
+        add_profile_wide(alloc, repo, profile, &mut first)?;
     }
-    Ok(wide)
+    Ok(first)
 }
 
 /// CATEGORY/PF of the first package that has a query of too many flags.
 pub fn first_wide(alloc: Global, repo: &Repo) -> Result<Option<Text>, NoMemory>
     ensures { IfOk result (λ place. place ≡ first_wide repo.now) }
 {
-    let wide = wide_of(alloc, repo)?;
-    match wide.first() {
+    match first_of(alloc, repo)? {
         Some(subject) => {
             let mut place = Text::of(alloc, b"")?;
-            subject.append_to(&mut place)?;
+            subject.append_to(alloc, &mut place)?;
             Ok(Some(place))
         }
         None => Ok(None),

@@ -1,7 +1,7 @@
 //! The words of the command line: `scan ROOT --certs FILE`. Reading them costs O(their bytes).
 ghost use Rattle.std.specs.Prelude.{◌≡◌, true, false, slice_get, IfNone, IfSome, OnSome};
 ghost use Rattle.std.specs.Str.{is_utf8};
-ghost use Rattle.gvis.specs.Words.{begins_with_hyphen, is_plain, is_scan};
+ghost use Rattle.gvis.specs.Words.{is_plain, is_scan};
 
 use gv_base::{Text, Texts};
 
@@ -15,28 +15,13 @@ fn is_utf8(word: &[u8]) -> bool
     }
 }
 
-fn begins_with_hyphen(word: &[u8]) -> bool
-    ensures { result ≡ begins_with_hyphen word.now }
-{
-    match word {
-        [] => false,
-        [first, ..] => *first == b'-',
-    }
-}
-
 fn is_plain(word: &[u8]) -> bool
     ensures { result ≡ is_plain word.now }
 {
-    word != b"".as_slice() && !begins_with_hyphen(word) && is_utf8(word)
-}
-
-/// What the words ask for.
-#[derive(Clone, Copy)]
-pub(crate) struct Asked<'a> {
-    /// The folder of the repository.
-    pub root: &'a Text,
-    /// The file of the certificates.
-    pub file: &'a Text,
+    match word {
+        [] => false,
+        [first, ..] => *first != b'-' && is_utf8(word),
+    }
 }
 
 fn is_scan(words: &Texts) -> bool
@@ -51,18 +36,14 @@ fn is_scan(words: &Texts) -> bool
         && is_plain(file.bytes())
 }
 
-/// Reads `scan ROOT --certs FILE`.
-pub(crate) fn read_words(words: &Texts) -> Option<Asked<'_>>
+/// ROOT of `scan ROOT --certs FILE`, where the words are so.
+pub(crate) fn root_of(words: &Texts) -> Option<&Text>
     ensures none { IfNone result (is_scan words.now ≡ false) }
     ensures some { OnSome result (is_scan words.now ≡ true) }
-    ensures root { IfSome result (λ asked. slice_get words.now 1 ≡ Some asked.root.now) }
-    ensures file { IfSome result (λ asked. slice_get words.now 3 ≡ Some asked.file.now) }
+    ensures root { IfSome result (λ root. slice_get words.now 1 ≡ Some root.now) }
 {
     if !is_scan(words) {
         return None;
     }
-    let [_, root, _, file] = words.items() else {
-        return None;
-    };
-    Some(Asked { root, file })
+    words.items().get(1)
 }

@@ -10,5 +10,6 @@ invariant-loop-name g l = record {
   rest : IsTold (g.T.Tree.files l.fn.tree) → first_of (look_in (g.T.Tree.files l.fn.tree)) (absent_in l.dir (drop l.name-index l.names)) ≡ first_of (look_in (g.T.Tree.files l.fn.tree)) (absent_in l.dir l.names);
   knows : Knows (g.T.Tree.files l.fn.tree) l.reader;
   files : g.T.Tree.files l.tree ≡ g.T.Tree.files l.fn.tree;
+  root : g.T.Tree.entered l.tree ≡ g.T.Tree.entered l.fn.tree;
   calm : g.T.Tree.faults l.tree ≡ g.T.Tree.faults l.fn.tree;
 }

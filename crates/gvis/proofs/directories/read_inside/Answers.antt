@@ -1,5 +1,5 @@
 use Rattle.std.proofs.Common.{◌∷◌, ◌++◌}
-use Rattle.gvis.specs.Paths.{within}
+use Rattle.gv_profile.specs.Paths.{within}
 use Rattle.gvis.specs.Look.{look_in}
 use Rattle.gvis.specs.Reading.{layout, refused, first_of, read, plain, absent_in}
 use Rattle.gvis.proofs.Passing.{later_cause, first_cause, front_cause, back_cause, both_pass, all_pass}

@@ -21,6 +21,7 @@ loop-category-preserved g c =
       rest = next_passed told (category_steps look) (flat_map (category_steps look)) categories (drop i categories) (drop (i + 1) categories) category (λ x xs. refl) next c.loop-category.invariant.rest
           (rw files at c.in_default.ensures.passed);
       files = c.in_default.ensures.files ∙ files;
+      root = c.in_default.ensures.root ∙ c.loop-category.invariant.root;
       calm = c.in_default.ensures.calm ∙ c.loop-category.invariant.calm;
     }
 

@@ -11,5 +11,6 @@ invariant-loop-category g l = record {
   members : IsTold (g.T.Tree.files l.fn.tree) → l.members ++ flat_map (members_of (look_in (g.T.Tree.files l.fn.tree))) (drop l.category-index l.categories) ≡ flat_map (members_of (look_in (g.T.Tree.files l.fn.tree))) l.categories;
   rest : IsTold (g.T.Tree.files l.fn.tree) → first_of (look_in (g.T.Tree.files l.fn.tree)) (flat_map (category_steps (look_in (g.T.Tree.files l.fn.tree))) (drop l.category-index l.categories)) ≡ first_of (look_in (g.T.Tree.files l.fn.tree)) (flat_map (category_steps (look_in (g.T.Tree.files l.fn.tree))) l.categories);
   files : g.T.Tree.files l.tree ≡ g.T.Tree.files l.fn.tree;
+  root : g.T.Tree.entered l.tree ≡ g.T.Tree.entered l.fn.tree;
   calm : g.T.Tree.faults l.tree ≡ g.T.Tree.faults l.fn.tree;
 }

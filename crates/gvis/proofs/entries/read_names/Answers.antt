@@ -23,5 +23,6 @@ loop-name-preserved g c =
       rest = next_passed told (λ n. entry category n ∷ []) (map (entry category)) names (drop i names) (drop (i + 1) names) name (λ n ns. refl) next c.loop-name.invariant.rest
           (both_pass told (refused look (entry category name)) None pass (λ t. refl));
       files = c.in_default.ensures.files ∙ files;
+      root = c.in_default.ensures.root ∙ c.loop-name.invariant.root;
       calm = c.in_default.ensures.calm ∙ c.loop-name.invariant.calm;
     }

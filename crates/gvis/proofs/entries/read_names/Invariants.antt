@@ -11,5 +11,6 @@ invariant-loop-name g l = record {
   members : IsTold (g.T.Tree.files l.fn.tree) → l.members ++ filter_map (member_of (look_in (g.T.Tree.files l.fn.tree)) l.category) (drop l.name-index l.names) ≡ l.fn.members ++ filter_map (member_of (look_in (g.T.Tree.files l.fn.tree)) l.category) l.names;
   rest : IsTold (g.T.Tree.files l.fn.tree) → first_of (look_in (g.T.Tree.files l.fn.tree)) (map (entry l.category) (drop l.name-index l.names)) ≡ first_of (look_in (g.T.Tree.files l.fn.tree)) (map (entry l.category) l.names);
   files : g.T.Tree.files l.tree ≡ g.T.Tree.files l.fn.tree;
+  root : g.T.Tree.entered l.tree ≡ g.T.Tree.entered l.fn.tree;
   calm : g.T.Tree.faults l.tree ≡ g.T.Tree.faults l.fn.tree;
 }

@@ -2,7 +2,7 @@ use Rattle.std.proofs.Common.{◌≡◌, ◌++◌, length}
 use Rattle.std.specs.List.{filter_map}
 use Rattle.gv_base.specs.declared.pieces.Cut.TheVariants.{Lines}
 use Rattle.gv_base.specs.Pieces.{left}
-use Rattle.gvis.specs.Lines.{line_words, file_lines}
+use Rattle.gv_profile.specs.Lines.{line_words, file_lines}
 use Rattle.gvis.specs.ProfileFiles.{category_in}
 use Rattle.gvis.proofs.profile_files.categories_in.Given as goal
 

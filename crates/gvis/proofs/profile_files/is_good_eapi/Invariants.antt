@@ -2,7 +2,7 @@ use Rattle.std.proofs.Common.{◌≡◌, length}
 use Rattle.std.specs.List.{flat_map}
 use Rattle.gv_base.specs.declared.pieces.Cut.TheVariants.{Lines}
 use Rattle.gv_base.specs.Pieces.{left}
-use Rattle.gvis.specs.Lines.{line_words}
+use Rattle.gv_profile.specs.Lines.{line_words}
 use Rattle.gvis.specs.ProfileFiles.{first_is_eapi, is_good_eapi}
 use Rattle.gvis.proofs.profile_files.is_good_eapi.Given as goal
 

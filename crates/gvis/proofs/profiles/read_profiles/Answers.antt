@@ -22,6 +22,7 @@ loop-line-preserved g c =
           (rw files at c.in_default.ensures.passed);
       knows = rw files at c.in_default.ensures.knows;
       files = c.in_default.ensures.files ∙ files;
+      root = c.in_default.ensures.root ∙ c.loop-line.invariant.root;
       calm = c.in_default.ensures.calm ∙ c.loop-line.invariant.calm;
     }
 

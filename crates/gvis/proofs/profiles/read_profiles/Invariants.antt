@@ -13,5 +13,6 @@ invariant-loop-line g l = record {
   rest : IsTold (g.T.Tree.files l.fn.tree) → first_of (look_in (g.T.Tree.files l.fn.tree)) (flat_map (line_steps (look_in (g.T.Tree.files l.fn.tree))) (drop l.line-index l.lines)) ≡ first_of (look_in (g.T.Tree.files l.fn.tree)) (flat_map (line_steps (look_in (g.T.Tree.files l.fn.tree))) l.lines);
   knows : Knows (g.T.Tree.files l.fn.tree) l.reader;
   files : g.T.Tree.files l.tree ≡ g.T.Tree.files l.fn.tree;
+  root : g.T.Tree.entered l.tree ≡ g.T.Tree.entered l.fn.tree;
   calm : g.T.Tree.faults l.tree ≡ g.T.Tree.faults l.fn.tree;
 }
