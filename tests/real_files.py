@@ -108,6 +108,17 @@ def loop_of_links(folder):
     return 3, "", "gvis: fault: tree profiles/base/make.defaults\n"
 
 
+def pipe_in_place_of_an_entry(folder):
+    make(folder, "metadata/md5-cache/x")
+    os.mkfifo(os.path.join(folder, "metadata/md5-cache/x/y-1"))
+    return 3, "", "gvis: fault: tree metadata/md5-cache/x/y-1\n"
+
+
+def device_in_place_of_a_file(folder):
+    os.symlink("/dev/zero", os.path.join(folder, "profiles/base/use.mask"))
+    return 3, "", "gvis: fault: tree profiles/base/use.mask\n"
+
+
 def name_too_long(folder):
     put(folder, "profiles/profiles.desc", b"amd64 " + b"a" * 300 + b" stable\n")
     return 3, "", "gvis: fault: tree profiles/" + "a" * 300 + "\n"
@@ -131,7 +142,7 @@ def closed_pipe(binary, folder):
 CASES = [
     a_file_and_an_absent_path, no_profiles_desc, folder_in_place_of_a_file, path_below_a_file, empty_folder_stands_there,
     listing_of_a_file_is_empty, listing_below_a_file_is_empty, folder_in_place_of_an_entry, largest_file, one_byte_more,
-    name_that_is_no_text, loop_of_links, name_too_long,
+    name_that_is_no_text, loop_of_links, pipe_in_place_of_an_entry, device_in_place_of_a_file, name_too_long,
 ]
 
 
