@@ -4,13 +4,18 @@
     core.py check      `check` on a log of 100,000 steps over 100,000 clauses
     core.py encode     `values` and `encode` on 100,000 gates of two operands
     core.py solve      the solver on a question of 42 inputs, on 10,000 small ones, and on a random one of 60 inputs
+    core.py large [CHECKOUT ..]   the solver on random questions of 80 to 400 inputs, 20 seeds each, beside the solver of
+                       other checkouts and those of Debian's packages, in one run
 
 It copies the crates and a program that calls them into a folder of its own, has `rt run` prove and build that, runs it
 and prints what it says: microseconds, or for `solve` how many questions were refuted, found and spent. The questions
-are the same at each run.
+are the same at each run. `large` prints a row for each size and solver: how many of the 20 ended within five seconds
+of the processor, their median and greatest time of the processor, median conflicts, and for gvis median steps of the log.
 """
 import os
 import random
+import re
+import resource
 import shutil
 import subprocess
 import sys
@@ -122,7 +127,8 @@ fn main(rt: HostRuntime) -> Result<(), Error> {
 """
 
 SOLVE = """//! Solves the questions that come in, each its length in four bytes and the gates' bytes, and prints how many were
-//! refuted, found and spent, with the steps of all logs and the kept sets of those that were spent.
+//! refuted, found and spent, with the steps of all logs, the kept sets of those that were spent, and the inputs that
+//! are on where bits were found.
 #![tactic(auto)]
 
 ghost use Rattle.std.specs.Prelude.{◌≡◌};
@@ -130,23 +136,33 @@ ghost use Rattle.std.specs.Prelude.{◌≡◌};
 use anyhow::{Context, Error};
 use gv_base::{Ledger, Steps};
 use gv_encode::encode;
-use gv_logic::read_gates;
+use gv_logic::{Bits, read_gates};
 use gv_solver::{Answer, solve};
 use std::alloc::Global;
 use std::io::Read;
 use std::marker::Brand;
 use std::sync::ledger::Blank;
 
-// 0 refuted, 1 found, 2 spent; steps; sets.
-fn one<L: Ledger>(alloc: Global, question: &[u8], steps: &mut Steps<L>) -> Result<[u64; 3], Error> {
+fn on(bits: &Bits) -> u64 {
+    let mut count: u64 = 0;
+    for bit in bits.items() {
+        if *bit {
+            count = count.wrapping_add(1);
+        }
+    }
+    count
+}
+
+// 0 refuted, 1 found, 2 spent; steps; sets; inputs that are on.
+fn one<L: Ledger>(alloc: Global, question: &[u8], steps: &mut Steps<L>) -> Result<[u64; 4], Error> {
     let read = read_gates(alloc, question).ok().context("memory")?;
     let gates = read.context("no gates")?;
     let clauses = encode(alloc, &gates).ok().context("memory")?;
     let answer = solve(alloc, &gates, &clauses, 65536, steps).ok().context("memory")?;
     Ok(match &answer {
-        Answer::Refuted { log } => [0, log.items().len() as u64, 0],
-        Answer::Found { log, .. } => [1, log.items().len() as u64, 0],
-        Answer::Spent { log, sets } => [2, log.items().len() as u64, sets.items().len() as u64],
+        Answer::Refuted { log } => [0, log.items().len() as u64, 0, 0],
+        Answer::Found { bits, log } => [1, log.items().len() as u64, 0, on(bits)],
+        Answer::Spent { log, sets } => [2, log.items().len() as u64, sets.items().len() as u64, 0],
     })
 }
 
@@ -176,13 +192,14 @@ fn run<L: Ledger>(rt: &HostRuntime, blank: Blank) -> Result<(), Error>
     let mut kinds = [0u64; 3];
     let mut logged: u64 = 0;
     let mut kept: u64 = 0;
+    let mut ons: u64 = 0;
     for _ in 0..u64::MAX {
         if at >= bytes.len() {
             break;
         }
         let from = at.wrapping_add(4);
         let to = from.wrapping_add(number(&bytes, at));
-        let [kind, length, sets] = one(alloc, part(&bytes, from, to), &mut steps)?;
+        let [kind, length, sets, on] = one(alloc, part(&bytes, from, to), &mut steps)?;
         for k in 0..3 {
             if kind == k as u64 {
                 kinds[k] = kinds[k].wrapping_add(1);
@@ -190,10 +207,11 @@ fn run<L: Ledger>(rt: &HostRuntime, blank: Blank) -> Result<(), Error>
         }
         logged = logged.wrapping_add(length);
         kept = kept.wrapping_add(sets);
+        ons = ons.wrapping_add(on);
         at = to;
     }
     let [refuted, found, spent] = kinds;
-    println!(rt; "refuted {refuted} found {found} spent {spent} steps {logged} sets {kept}")?;
+    println!(rt; "refuted {refuted} found {found} spent {spent} steps {logged} sets {kept} on {ons}")?;
     Ok(())
 }
 
@@ -240,9 +258,9 @@ def random_groups(draw, inputs, count):
     return all_of(inputs, [[2 * i + draw.randrange(2) for i in draw.sample(range(inputs), 3)] for _ in range(count)])
 
 
-def build(folder, source, proof, deps):
-    shutil.copytree(os.path.join(TOP, "crates"), os.path.join(folder, "crates"), ignore=shutil.ignore_patterns("out", "must-fail"))
-    with open(os.path.join(TOP, "crates.txt")) as f:
+def build(folder, source, proof, deps, top=TOP):
+    shutil.copytree(os.path.join(top, "crates"), os.path.join(folder, "crates"), ignore=shutil.ignore_patterns("out", "must-fail"))
+    with open(os.path.join(top, "crates.txt")) as f:
         lines = f.read()
     crate = os.path.join(folder, "crates", "measure")
     os.makedirs(os.path.join(crate, "src"))
@@ -310,7 +328,85 @@ def beside(gates):
                 print(f"  {solver}: {said}: {time.perf_counter() - start:.3f} s")
 
 
-def main(what):
+# seconds of the processor for one question
+LIMIT = 5
+
+# inputs and groups of three: at the threshold of 4.3 groups an input, and below
+SIZES = ((80, 344), (100, 430), (120, 516), (100, 350), (150, 480), (200, 640), (300, 900), (400, 1200))
+
+
+def ended(command, given=None):
+    """What a program says, and its time of the processor; None where it doesn't end within the limit."""
+
+    def limited():
+        resource.setrlimit(resource.RLIMIT_CPU, (LIMIT, LIMIT))
+
+    before = resource.getrusage(resource.RUSAGE_CHILDREN)
+    done = subprocess.run(command, input=given, capture_output=True, preexec_fn=limited)
+    if done.returncode < 0:
+        return None
+    after = resource.getrusage(resource.RUSAGE_CHILDREN)
+    took = after.ru_utime + after.ru_stime - before.ru_utime - before.ru_stime
+    return done.stdout.decode() + done.stderr.decode(), took
+
+
+def by_gvis(program, gates):
+    out = ended([program], question(gates))
+    if out is None:
+        return None
+    word = out[0].split()
+    steps, on = int(word[7]), int(word[11])
+    return "found" if word[3] == "1" else "refuted" if word[1] == "1" else "spent", out[1], None, steps - on
+
+
+def by_others(solver, gates):
+    with tempfile.NamedTemporaryFile("w", suffix=".cnf") as f:
+        f.write(dimacs(gates))
+        f.flush()
+        out = ended([solver, *(["-v"] if solver == "picosat" else []), f.name])
+    if out is None:
+        return None
+    conflicts = re.search(r"conflicts *: *(\d+)|(\d+) conflicts", out[0])
+    said = "refuted" if "UNSATISFIABLE" in out[0] else "found" if "SATISFIABLE" in out[0] else "nothing"
+    return said, out[1], int(conflicts.group(1) or conflicts.group(2)) if conflicts else None, None
+
+
+def median(numbers):
+    return sorted(numbers)[len(numbers) // 2] if numbers else "-"
+
+
+def large(folder, checkouts):
+    deps = "gv_base gv_logic gv_encode gv_refute gv_solver anyhow"
+    proof = {"proofs/main/Invariants.antt": SOLVE_PROOF}
+    programs = [(f"gvis of {os.path.basename(os.path.abspath(top))}", build(os.path.join(folder, str(n)), SOLVE, proof, deps, top)) for n, top in enumerate(checkouts)]
+    compare(programs + [("gvis", build(os.path.join(folder, "own"), SOLVE, proof, deps))])
+
+
+def compare(programs):
+    solvers = [(name, lambda gates, program=program: by_gvis(program, gates)) for name, program in programs]
+    for solver in ("minisat", "picosat"):
+        if shutil.which(solver):
+            solvers.append((solver, lambda gates, solver=solver: by_others(solver, gates)))
+    print("| Inputs, groups | Solver | Ended | Found | Median, greatest seconds | Conflicts | Steps |")
+    print("|---|---|---|---|---|---|---|")
+    for inputs, groups in SIZES:
+        draw = random.Random(inputs * 10_000 + groups)
+        questions = [random_groups(draw, inputs, groups) for _ in range(20)]
+        said = {}
+        for name, solve in solvers:
+            answers = [solve(gates) for gates in questions]
+            for k, answer in enumerate(answers):
+                if answer and said.setdefault(k, answer[0]) != answer[0]:
+                    print(f"question {k} of {inputs} inputs: {name} says {answer[0]} and another {said[k]}")
+            there = [a for a in answers if a]
+            times = [a[1] for a in there]
+            conflicts, steps = ([a[n] for a in there if a[n] is not None] for n in (2, 3))
+            took = f"{median(times):.3f}, {max(times):.3f}" if times else "-"
+            found = sum(a[0] == "found" for a in there)
+            print(f"| {inputs}, {groups} | {name} | {len(there)} | {found} | {took} | {median(conflicts)} | {median(steps)} |", flush=True)
+
+
+def main(what, checkouts):
     draw = random.Random(1)
     with tempfile.TemporaryDirectory() as folder:
         if what == "check":
@@ -319,6 +415,8 @@ def main(what):
         elif what == "encode":
             gates = [(draw.randrange(2), [2 * n, 2 * n + 3]) for n in range(100_000)]
             print(timed(build(folder, ENCODE, {}, "gv_base gv_logic gv_encode anyhow"), circuit(2, gates, 2 * 100_001))[0])
+        elif what == "large":
+            large(folder, checkouts)
         else:
             deps = "gv_base gv_logic gv_encode gv_refute gv_solver anyhow"
             program = build(folder, SOLVE, {"proofs/main/Invariants.antt": SOLVE_PROOF}, deps)
@@ -336,6 +434,6 @@ def main(what):
 
 
 if __name__ == "__main__":
-    if sys.argv[1:] not in (["check"], ["encode"], ["solve"]):
+    if sys.argv[1:] not in (["check"], ["encode"], ["solve"]) and sys.argv[1:2] != ["large"]:
         sys.exit(__doc__)
-    main(sys.argv[1])
+    main(sys.argv[1], sys.argv[2:])
