@@ -8,3 +8,4 @@ pub mod PathLemmas
 pub mod SliceRests
 pub mod StackLaw
 pub mod Walks
+pub mod WayLemmas

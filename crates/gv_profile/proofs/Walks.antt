@@ -15,7 +15,8 @@ use Rattle.gv_profile.specs.Eapi.{has_bad_eapi}
 use Rattle.gv_profile.specs.Names.{eapi_path}
 use Rattle.gv_profile.specs.Parents.{parents_of}
 use Rattle.gv_profile.specs.Walk.{Look, Met, visit, leave, eapi_fault, at_parent, walk, walk_below, most_visits, first_fault}
-use Rattle.gv_profile.specs.Frames.{family_of, left_of, left_below, left, Leads}
+use Rattle.gv_profile.specs.Frames.{left_of, left_below, left, Leads}
+use Rattle.gv_profile.specs.Ways.{family_of}
 use Rattle.gv_profile.specs.Folds.{with_dir}
 use Rattle.gv_profile.specs.Slices.{dropped, nothing_dropped}
 
@@ -52,25 +53,25 @@ grouped : (a b c d : List Met) → ((a ++ b) ++ c) ++ d ≡ a ++ ((b ++ c) ++ d)
 grouped a b c d = simp append_assoc
 
 -- what is left behind a frame that was put there
-pub left_with : (look : Look) (old w : Walk) (f : Frame) → w.frames.items ≡ old.frames.items ++ f ∷ [] →
-    left look w ≡ left_of look (family_of w.frames.items) f ++ left look old
-left_with look old w f is = rw is (left_pushed look [] old.frames.items f)
+pub left_with : (look : Look) (old w : Walk) (f : Frame) → w.frames ≡ old.frames ++ f ∷ [] →
+    left look w ≡ left_of look (family_of w.frames) f ++ left look old
+left_with look old w f is = rw is (left_pushed look [] old.frames f)
 
 -- a directory is entered
 pub came_to : (look : Look) (old w : Walk) (dir : List ℕ) (files : DirFiles) →
-    has_bad_eapi files ≡ false → old.visits < most_visits → length old.frames.items ≤ old.visits →
+    has_bad_eapi files ≡ false → old.visits < most_visits → length old.frames ≤ old.visits →
     w ≡ record { frames = w.frames; visits = old.visits + 1; folded = old.folded } →
-    w.frames.items ≡ old.frames.items ++ record { dir = dir; parents = parents_of dir files; next = 0 } ∷ [] →
-    Leads look (walk_below look (family_of old.frames.items) dir files ++ left look old) old.visits old.folded w
+    w.frames ≡ old.frames ++ record { dir = dir; parents = parents_of dir files; next = 0 } ∷ [] →
+    Leads look (walk_below look (family_of old.frames) dir files ++ left look old) old.visits old.folded w
 came_to look old w dir files good few within new is =
     let one : w.visits ≡ old.visits + 1 = ap (λ (v : Walk). v.visits) new in
     let same : w.folded ≡ old.folded = ap (λ (v : Walk). v.folded) new in
-    let fam : family_of w.frames.items ≡ family_of old.frames.items ++ dir ∷ [] = ap family_of is ∙ family_pushed old.frames.items _ in
-    let shallow : length (family_of old.frames.items) < most_visits = rw length_family (omega arith) in
-    let meets : walk_below look (family_of old.frames.items) dir files ++ left look old ≡ visit dir ∷ left look w =
-    rw (entered look (family_of old.frames.items) dir files shallow, good, left_with look old w _ is, fam) refl in
+    let fam : family_of w.frames ≡ family_of old.frames ++ dir ∷ [] = ap family_of is ∙ family_pushed old.frames _ in
+    let shallow : length (family_of old.frames) < most_visits = rw length_family (omega arith) in
+    let meets : walk_below look (family_of old.frames) dir files ++ left look old ≡ visit dir ∷ left look w =
+    rw (entered look (family_of old.frames) dir files shallow, good, left_with look old w _ is, fam) refl in
     let tested : nat_lt old.visits most_visits ≡ true = lt-ltb _ _ few in
-    let size = length_pushed old.frames.items w.frames.items _ is in
+    let size = length_pushed old.frames w.frames _ is in
     record {
       fault = rw (meets, tested, one) refl;
       state = rw (meets, same) refl;
@@ -94,24 +95,24 @@ too_many look above dir files rest visits many = too_deep _ look above dir files
 
 -- a directory whose eapi is bad
 pub bad_eapi : (look : Look) (old : Walk) (dir : List ℕ) (files : DirFiles) (rest : List Met) →
-    has_bad_eapi files ≡ true → old.visits < most_visits → length old.frames.items ≤ old.visits →
-    first_fault old.visits (walk_below look (family_of old.frames.items) dir files ++ rest) ≡ Some (BadEapi (eapi_path dir))
+    has_bad_eapi files ≡ true → old.visits < most_visits → length old.frames ≤ old.visits →
+    first_fault old.visits (walk_below look (family_of old.frames) dir files ++ rest) ≡ Some (BadEapi (eapi_path dir))
 bad_eapi look old dir files rest bad few within =
-    let shallow : length (family_of old.frames.items) < most_visits = rw length_family (omega arith) in
+    let shallow : length (family_of old.frames) < most_visits = rw length_family (omega arith) in
     let tested : nat_lt old.visits most_visits ≡ true = lt-ltb _ _ few in
-    rw (entered look (family_of old.frames.items) dir files shallow, bad, tested) refl
+    rw (entered look (family_of old.frames) dir files shallow, bad, tested) refl
 
 -- the next parent of a frame
 pub next_parent : (look : Look) (old w : Walk) (f : Frame) (parent : ParentLine) →
     slice_get f.parents f.next ≡ Some parent →
-    w.frames.items ≡ old.frames.items ++ record { dir = f.dir; parents = f.parents; next = f.next + 1 } ∷ [] →
-    left_of look (family_of (old.frames.items ++ f ∷ [])) f ++ left look old
-    ≡ at_parent (walk_below look (family_of w.frames.items)) look (family_of w.frames.items) f.dir parent ++ left look w
+    w.frames ≡ old.frames ++ record { dir = f.dir; parents = f.parents; next = f.next + 1 } ∷ [] →
+    left_of look (family_of (old.frames ++ f ∷ [])) f ++ left look old
+    ≡ at_parent (walk_below look (family_of w.frames)) look (family_of w.frames) f.dir parent ++ left look w
 next_parent look old w f parent there is =
-    let fam : family_of w.frames.items ≡ family_of (old.frames.items ++ f ∷ []) = ap family_of is ∙ family_pushed old.frames.items _ ∙ sym (family_pushed old.frames.items f) in
+    let fam : family_of w.frames ≡ family_of (old.frames ++ f ∷ []) = ap family_of is ∙ family_pushed old.frames _ ∙ sym (family_pushed old.frames f) in
     rw (left_with look old w _ is, fam, dropped f.parents f.next parent there) (grouped
-    (at_parent (walk_below look (family_of (old.frames.items ++ f ∷ []))) look (family_of (old.frames.items ++ f ∷ [])) f.dir parent)
-    (flat_map (at_parent (walk_below look (family_of (old.frames.items ++ f ∷ []))) look (family_of (old.frames.items ++ f ∷ [])) f.dir) (drop (f.next + 1) f.parents))
+    (at_parent (walk_below look (family_of (old.frames ++ f ∷ []))) look (family_of (old.frames ++ f ∷ [])) f.dir parent)
+    (flat_map (at_parent (walk_below look (family_of (old.frames ++ f ∷ []))) look (family_of (old.frames ++ f ∷ [])) f.dir) (drop (f.next + 1) f.parents))
     (leave f.dir ∷ [])
     (left look old))
 
@@ -121,11 +122,11 @@ went_on look met more visits folded w is leads = subst (λ ms. Leads look ms vis
 
 -- a directory is left
 pub left_dir : (look : Look) (old w : Walk) (f : Frame) →
-    slice_get f.parents f.next ≡ None → length old.frames.items < old.visits →
+    slice_get f.parents f.next ≡ None → length old.frames < old.visits →
     w ≡ record { frames = old.frames; visits = old.visits; folded = with_dir look old.folded f.dir } →
-    Leads look (left_of look (family_of (old.frames.items ++ f ∷ [])) f ++ left look old) old.visits old.folded w
+    Leads look (left_of look (family_of (old.frames ++ f ∷ [])) f ++ left look old) old.visits old.folded w
 left_dir look old w f done within is =
-    let meets : left_of look (family_of (old.frames.items ++ f ∷ [])) f ++ left look old ≡ leave f.dir ∷ left look w = rw (is, nothing_dropped f.parents f.next done) refl in
+    let meets : left_of look (family_of (old.frames ++ f ∷ [])) f ++ left look old ≡ leave f.dir ∷ left look w = rw (is, nothing_dropped f.parents f.next done) refl in
     record {
       fault = rw (meets, is) refl;
       state = rw (meets, is) refl;
@@ -134,6 +135,6 @@ left_dir look old w f done within is =
     }
 
 -- ---- the loop, where the last frame of `w` was taken off and left `old`
-pub taken_off : (look : Look) (w old : Walk) (f : Frame) → w.frames.items ≡ old.frames.items ++ f ∷ [] →
-    left look w ≡ left_of look (family_of (old.frames.items ++ f ∷ [])) f ++ left look old
-taken_off look w old f is = rw is (left_pushed look [] old.frames.items f)
+pub taken_off : (look : Look) (w old : Walk) (f : Frame) → w.frames ≡ old.frames ++ f ∷ [] →
+    left look w ≡ left_of look (family_of (old.frames ++ f ∷ [])) f ++ left look old
+taken_off look w old f is = rw is (left_pushed look [] old.frames f)

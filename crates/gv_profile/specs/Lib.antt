@@ -18,3 +18,4 @@ pub mod Said
 pub mod Slices
 pub mod Stacks
 pub mod Walk
+pub mod Ways

@@ -8,7 +8,7 @@ pub loop-frame-preserved : goal.loop-frame-preserved
 loop-frame-preserved c =
     let w = c.loop-frame.walk in
     let old : Walk = record w { frames = c.pop.new.self } in
-    let is : w.frames.items ≡ c.pop.new.self.items ++ c.in-Some.frame ∷ [] = search rules in
+    let is : w.frames ≡ c.pop.new.self ++ c.in-Some.frame ∷ [] = search rules in
     let meets = taken_off (get c.args.dirs.now) w old c.in-Some.frame is in
     let leads = c.in-Ok.ensures.leads in
     let fault = rw meets at c.loop-frame.invariant.fault in
@@ -23,7 +23,7 @@ pub returns-in-Err-clause-fault : goal.returns-in-Err-clause-fault
 returns-in-Err-clause-fault c =
     let w = c.loop-frame.walk in
     let old : Walk = record w { frames = c.pop.new.self } in
-    let is : w.frames.items ≡ c.pop.new.self.items ++ c.in-Some.frame ∷ [] = search rules in
+    let is : w.frames ≡ c.pop.new.self ++ c.in-Some.frame ∷ [] = search rules in
     let meets = taken_off (get c.args.dirs.now) w old c.in-Some.frame is in
     rw (c.loop-frame.invariant.fault, meets) c.in-Err.ensures.fault
 
@@ -31,6 +31,6 @@ pub loop-frame-smaller : goal.loop-frame-smaller
 loop-frame-smaller c =
     let w = c.loop-frame.walk in
     let old : Walk = record w { frames = c.pop.new.self } in
-    let is : w.frames.items ≡ c.pop.new.self.items ++ c.in-Some.frame ∷ [] = search rules in
+    let is : w.frames ≡ c.pop.new.self ++ c.in-Some.frame ∷ [] = search rules in
     let meets = taken_off (get c.args.dirs.now) w old c.in-Some.frame is in
     rw meets c.in-Ok.ensures.leads.less
