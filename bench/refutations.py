@@ -4,9 +4,11 @@
     refutations.py [FOLDER]
 
 Solves the twenty pairs and random questions of 40 to 100 inputs, and writes the clauses of each that is refuted as
-DIMACS and its log as DRAT and as LRAT (into FOLDER, else into one that is removed again). `drat-trim` judges the DRAT
-where it is on PATH. Besides, each step is judged here by unit propagation over all clauses, without the log's hints,
-and the hints one by one as LRAT wants them; and `minisat` says whether the clauses are unsatisfiable.
+DIMACS and its log as DRAT and as LRAT (into FOLDER, else into one that is removed again). The LRAT is judged by the
+checker that is proved in ACL2 (Debian's packages acl2 and acl2-books), the DRAT by `drat-trim`, each where it is on
+PATH. Besides, each step is judged here by unit propagation over all clauses, without the log's hints, and the hints one
+by one as LRAT wants them; and `minisat` says whether the clauses are unsatisfiable. ACL2's checker is also given a log
+without its first step, which it has to refuse.
 """
 import os
 import random
@@ -137,25 +139,49 @@ def by_hints(clauses, clause, hints):
     return False
 
 
-def judge(folder, name, dimacs, steps):
-    clauses = clauses_of(dimacs)
-    count = len(clauses)
-    base = os.path.join(folder, name)
+def by_acl2(cnf, lrat):
+    """Whether the checker that is proved in ACL2 accepts the steps."""
+    book = '(include-book "projects/sat/lrat/stobj-based/run" :dir :system)'
+    words = f'{book}\n(lrat::lrat-check "{os.path.abspath(cnf)}" "{os.path.abspath(lrat)}")\n'
+    return "s VERIFIED" in subprocess.run(["acl2"], input=words, capture_output=True, text=True).stdout
+
+
+def by_drat_trim(cnf, drat):
+    return "s VERIFIED" in subprocess.run(["drat-trim", cnf, drat], capture_output=True, text=True).stdout
+
+
+def write(base, dimacs, steps):
+    count = dimacs.count("\n") - 1
     with open(base + ".cnf", "w") as cnf, open(base + ".drat", "w") as drat, open(base + ".lrat", "w") as lrat:
         cnf.write(dimacs)
-        for n, (clause, hints) in enumerate(steps):
+        for n, (clause, hints) in steps:
             text = " ".join(str(lit) for lit in [*clause, 0])
             drat.write(text + "\n")
             lrat.write(f"{count + n + 1} {text} {' '.join(str(hint + 1) for hint in hints)} 0\n")
+
+
+def by_others(base):
+    """What the programs say that are there: their names, each with its answer."""
+    said = {}
+    if shutil.which("acl2"):
+        said["acl2"] = by_acl2(base + ".cnf", base + ".lrat")
+    if shutil.which("drat-trim"):
+        said["drat-trim"] = by_drat_trim(base + ".cnf", base + ".drat")
+    return said
+
+
+def judge(folder, name, dimacs, steps):
+    clauses = clauses_of(dimacs)
+    base = os.path.join(folder, name)
+    write(base, dimacs, list(enumerate(steps)))
     told = []
     good = any(not clause for clause, _ in steps)
     for clause, hints in steps:
         good = good and by_propagation(clauses, clause) and by_hints(clauses, clause, hints)
         clauses.append(clause)
     told.append("every step follows" if good else "A STEP DOESN'T FOLLOW")
-    if shutil.which("drat-trim"):
-        said = subprocess.run(["drat-trim", base + ".cnf", base + ".drat"], capture_output=True, text=True).stdout
-        told.append("drat-trim: " + ("verified" if "s VERIFIED" in said else "NOT VERIFIED"))
+    for program, accepted in by_others(base).items():
+        told.append(f"{program}: {'verified' if accepted else 'NOT VERIFIED'}")
     if shutil.which("minisat"):
         status = subprocess.run(["minisat", base + ".cnf"], capture_output=True).returncode
         told.append("minisat: " + ("unsatisfiable" if status == 20 else "SATISFIABLE"))
@@ -173,8 +199,14 @@ def main(folder):
             draw = random.Random(inputs)
             questions += [(f"random-{inputs}-{n}", core.random_groups(draw, inputs, groups)) for n in range(8)]
         refuted = 0
+        cut = os.path.join(made, "cut")
         for name, gates in questions:
             steps = steps_in(subprocess.run([program], input=gates, capture_output=True).stdout)
+            if steps and not refuted and shutil.which("acl2"):
+                write(cut, core.dimacs(gates), list(enumerate(steps))[1:])
+                accepted = by_acl2(cut + ".cnf", cut + ".lrat")
+                print(f"acl2 {'ACCEPTS' if accepted else 'refuses'} the log of {name} without its first step")
+                good = good and not accepted
             if steps:
                 refuted += 1
                 good = judge(folder or made, name, core.dimacs(gates), steps) and good
