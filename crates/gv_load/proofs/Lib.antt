@@ -1,0 +1,24 @@
+mod Examples
+pub mod Apart
+pub mod Closing
+pub mod DirLemmas
+pub mod Drops
+pub mod EclassLemmas
+pub mod JudgeLemmas
+pub mod Listings
+pub mod LoadLemmas
+pub mod MemberLemmas
+pub mod Needs
+pub mod OnceLaw
+pub mod OncePaths
+pub mod Onces
+pub mod Passing
+pub mod PfLemmas
+pub mod PfVersions
+pub mod ProfileLemmas
+pub mod Reaches
+pub mod Readings
+pub mod SameStacks
+pub mod Slashes
+pub mod StackLemmas
+pub mod StackSteps

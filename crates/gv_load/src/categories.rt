@@ -1,0 +1,375 @@
+//! The PFs of a category, as its three kinds of listings tell them (PMS chapter 14).
+//!
+//! Costs a listing for the entries, one for the category and one for each package name, and O(n log n) comparisons for n
+//! names.
+ghost use Rattle.std.specs.Prelude.{◌≡◌, ◌≤◌, ◌<◌, ◌∷◌, [], ◌+◌, ◌++◌, true, List, ℕ, take, drop, length, filter, filter_map, flat_map, IfOk, IfErr, OnOk};
+ghost use Rattle.std.specs.List.{list_all};
+ghost use Rattle.std.specs.Str.{bytes_eq};
+ghost use Rattle.gv_base.specs.Order.{in_order, has_text};
+ghost use Rattle.gv_version.specs.Names.{split_pf, is_package};
+ghost use Rattle.gv_load.specs.Categories.{is_pf, name_of, pf_subject, version_of, listed, folders, ends_as_ebuild, front_of, ebuild_in, ebuilds_in, pfs_of};
+ghost use Rattle.gv_load.specs.Causes.{Cause, Knows, Went};
+ghost use Rattle.gv_load.specs.Look.{IsTold, look_in, around};
+ghost use Rattle.gv_load.specs.Order.{folder_lists, listing_steps};
+ghost use Rattle.gv_load.specs.Paths.{cache_dir, ebuild_end};
+ghost use Rattle.gv_load.specs.Reading.{passed, after_list, list};
+ghost use Rattle.gv_profile.specs.Paths.{within};
+
+use crate::LoadFault;
+use crate::paths::cache_dir;
+use crate::reaching::add_key;
+use crate::reader::{Reader, list_names};
+use gv_base::{NoMemory, Text, Texts, Tree};
+use gv_profile::within;
+use gv_report::Subject;
+use gv_version::{Version, is_package, split_pf, split_pf_law};
+use std::alloc::Global;
+use std::collections::BTreeSet;
+
+// The place of the hyphen in a PF, None where the name is no PF. Places have 32 bits, and a longer name finds no memory.
+fn hyphen_of(name: &[u8]) -> Result<Option<u32>, NoMemory>
+    ensures { IfOk result (λ at. at ≡ split_pf name.now) }
+{
+    match u32::try_from(name.len()) {
+        Ok(_) => Ok(split_pf(name)),
+        Err(_) => Err(NoMemory),
+    }
+}
+
+fn is_pf(name: &[u8]) -> Result<bool, NoMemory>
+    ensures { IfOk result (λ is. is ≡ is_pf name.now) }
+{
+    match hyphen_of(name) {
+        Ok(Some(_)) => Ok(true),
+        Ok(None) => Ok(false),
+        Err(_) => Err(NoMemory),
+    }
+}
+
+fn front(bytes: &[u8], at: usize) -> &[u8]
+    ensures { result.now ≡ take at bytes.now }
+{
+    if at < bytes.len() {
+        &bytes[..at]
+    } else {
+        bytes
+    }
+}
+
+/// The package name in a PF.
+pub(crate) fn name_in(pf: &[u8]) -> Result<&[u8], NoMemory>
+    ensures { IfOk result (λ name. name.now ≡ name_of pf.now) }
+{
+    match hyphen_of(pf) {
+        Ok(Some(at)) => Ok(front(pf, at as usize)),
+        Ok(None) => Ok(front(pf, 0)),
+        Err(_) => Err(NoMemory),
+    }
+}
+
+/// The package that a PF of a category is of.
+pub(crate) fn pf_subject(alloc: Global, category: &Text, pf: &Text) -> Result<Subject, NoMemory>
+    requires { is_pf pf.now ≡ true }
+    ensures { IfOk result (λ subject. subject ≡ pf_subject category.now pf.now) }
+{
+    split_pf_law();
+    let name = name_in(pf.bytes())?;
+    let version = version_in(pf.bytes())?;
+    Ok(Subject::Package {
+        category: category.copy(alloc)?,
+        name: Text::of(alloc, name)?,
+        version: Version::of(alloc, version)?,
+        pf: pf.copy(alloc)?,
+    })
+}
+
+fn behind(bytes: &[u8], at: usize) -> &[u8]
+    ensures { result.now ≡ drop (at + 1) bytes.now }
+{
+    if at < bytes.len() {
+        &bytes[at + 1..]
+    } else {
+        &bytes[bytes.len()..]
+    }
+}
+
+// The text behind the hyphen in a PF.
+fn version_in(pf: &[u8]) -> Result<&[u8], NoMemory>
+    ensures { IfOk result (λ version. version.now ≡ version_of pf.now) }
+{
+    match hyphen_of(pf) {
+        Ok(Some(at)) => Ok(behind(pf, at as usize)),
+        Ok(None) => Ok(behind(pf, 0)),
+        Err(_) => Err(NoMemory),
+    }
+}
+
+fn pfs_among(alloc: Global, names: &Texts) -> Result<Texts, NoMemory>
+    ensures { IfOk result (λ pfs. pfs ≡ filter is_pf names.now) }
+{
+    let mut pfs = Texts::new(alloc);
+    for name in names.items() {
+        if is_pf(name.bytes())? {
+            pfs.add(name.copy(alloc)?)?;
+        }
+    }
+    Ok(pfs)
+}
+
+fn packages_among(alloc: Global, names: &Texts) -> Result<Texts, NoMemory>
+    ensures { IfOk result (λ packages. packages ≡ filter is_package names.now) }
+{
+    let mut packages = Texts::new(alloc);
+    for name in names.items() {
+        if is_package(name.bytes()) {
+            packages.add(name.copy(alloc)?)?;
+        }
+    }
+    Ok(packages)
+}
+
+#[tactic(auto, unfolding(crate::specs::Paths::ebuild_end))]
+fn ends_as_ebuild(file: &[u8]) -> bool
+    ensures { result ≡ ends_as_ebuild file.now }
+{
+    file.ends_with(b".ebuild".as_slice())
+}
+
+#[tactic(auto, unfolding(crate::specs::Paths::ebuild_end))]
+fn front_of(file: &[u8]) -> &[u8]
+    ensures { result.now ≡ front_of file.now }
+{
+    if file.len() < 7 {
+        &file[..0]
+    } else {
+        &file[..file.len() - 7]
+    }
+}
+
+// The PF whose ebuild a file in the folder of that name is.
+fn ebuild_in(alloc: Global, name: &[u8], file: &[u8]) -> Result<Option<Text>, NoMemory>
+    ensures { IfOk result (λ pf. pf ≡ ebuild_in name.now file.now) }
+{
+    if !ends_as_ebuild(file) {
+        return Ok(None);
+    }
+    let pf = front_of(file);
+    if name_in(pf)? == name {
+        Ok(Some(Text::of(alloc, pf)?))
+    } else {
+        Ok(None)
+    }
+}
+
+fn ebuilds_among(alloc: Global, name: &[u8], files: &Texts, pfs: &mut Texts) -> Result<(), NoMemory>
+    ensures { OnOk result (pfs.new ≡ pfs.old ++ filter_map (ebuild_in name.now) files.now) }
+{
+    for file in files.items() {
+        match ebuild_in(alloc, name, file.bytes())? {
+            Some(pf) => pfs.add(pf)?,
+            None => {}
+        }
+    }
+    Ok(())
+}
+
+// The ebuilds in the folder of a name.
+fn list_ebuilds<T: Tree>(
+    alloc: Global,
+    reader: &Reader,
+    tree: &mut T,
+    category: &Text,
+    name: &Text,
+    pfs: &mut Texts,
+) -> Result<(), LoadFault>
+    requires { Knows (T.files tree.old) reader.now }
+    ensures value { OnOk result (IsTold (T.files tree.old) → pfs.new ≡ pfs.old ++ ebuilds_in (look_in (T.files tree.old)) category.now name.now) }
+    ensures went { OnOk result (Went (T.files tree.old) (T.faults tree.old) (T.faults tree.new) (list (within category.now name.now) ∷ []) reader.now reader.now) }
+    ensures cause { IfErr result (Cause (T.files tree.old) (T.faults tree.old) (T.faults tree.new) (passed (look_in (T.files tree.old)) reader.now (list (within category.now name.now) ∷ []))) }
+    ensures files { T.files tree.new ≡ T.files tree.old }
+    ensures around { around (T.entered tree.new) (T.lent tree.new) ≡ around (T.entered tree.old) (T.lent tree.old) }
+    ensures later { T.faults tree.old ≤ T.faults tree.new }
+{
+    let Ok(path) = within(alloc, category, name.bytes()) else {
+        return Err(LoadFault::NoMemory);
+    };
+    let files = match list_at(alloc, reader, tree, &path) {
+        Ok(files) => files,
+        Err(fault) => return Err(fault),
+    };
+    match ebuilds_among(alloc, name.bytes(), &files, pfs) {
+        Ok(()) => Ok(()),
+        Err(_) => Err(LoadFault::NoMemory),
+    }
+}
+
+// The names below a path, in byte order. The reader is as before.
+fn list_at<T: Tree>(
+    alloc: Global,
+    reader: &Reader,
+    tree: &mut T,
+    path: &Text,
+) -> Result<Texts, LoadFault>
+    requires { Knows (T.files tree.old) reader.now }
+    ensures value { IfOk result (λ value. IsTold (T.files tree.old) → value ≡ (look_in (T.files tree.old)).names path.now) }
+    ensures went { OnOk result (Went (T.files tree.old) (T.faults tree.old) (T.faults tree.new) (list path.now ∷ []) reader.now reader.now) }
+    ensures cause { IfErr result (Cause (T.files tree.old) (T.faults tree.old) (T.faults tree.new) (passed (look_in (T.files tree.old)) reader.now (list path.now ∷ []))) }
+    ensures files { T.files tree.new ≡ T.files tree.old }
+    ensures around { around (T.entered tree.new) (T.lent tree.new) ≡ around (T.entered tree.old) (T.lent tree.old) }
+    ensures later { T.faults tree.old ≤ T.faults tree.new }
+{
+    match list_names(alloc, tree, path) {
+        Ok(names) => Ok(names),
+        Err(fault) => Err(fault),
+    }
+}
+
+// The ebuilds in the folders of these names.
+fn list_folders<T: Tree>(
+    alloc: Global,
+    reader: &Reader,
+    tree: &mut T,
+    category: &Text,
+    names: &Texts,
+) -> Result<Texts, LoadFault>
+    requires { Knows (T.files tree.old) reader.now }
+    ensures value { IfOk result (λ value. IsTold (T.files tree.old) → value ≡ flat_map (ebuilds_in (look_in (T.files tree.old)) category.now) names.now) }
+    ensures went { OnOk result (Went (T.files tree.old) (T.faults tree.old) (T.faults tree.new) (folder_lists category.now names.now) reader.now reader.now) }
+    ensures cause { IfErr result (Cause (T.files tree.old) (T.faults tree.old) (T.faults tree.new) (passed (look_in (T.files tree.old)) reader.now (folder_lists category.now names.now))) }
+    ensures files { T.files tree.new ≡ T.files tree.old }
+    ensures around { around (T.entered tree.new) (T.lent tree.new) ≡ around (T.entered tree.old) (T.lent tree.old) }
+    ensures later { T.faults tree.old ≤ T.faults tree.new }
+{
+    let mut pfs = Texts::new(alloc);
+    for name in names.items() {
+        if let Err(fault) = list_ebuilds(alloc, reader, tree, category, name, &mut pfs) {
+            return Err(fault);
+        }
+    }
+    Ok(pfs)
+}
+
+// The names among the entries of a category.
+fn list_entries<T: Tree>(
+    alloc: Global,
+    reader: &Reader,
+    tree: &mut T,
+    category: &Text,
+) -> Result<Texts, LoadFault>
+    requires { Knows (T.files tree.old) reader.now }
+    ensures value { IfOk result (λ value. IsTold (T.files tree.old) → value ≡ listed (look_in (T.files tree.old)) category.now) }
+    ensures went { OnOk result (Went (T.files tree.old) (T.faults tree.old) (T.faults tree.new) (list (cache_dir category.now) ∷ []) reader.now reader.now) }
+    ensures cause { IfErr result (Cause (T.files tree.old) (T.faults tree.old) (T.faults tree.new) (passed (look_in (T.files tree.old)) reader.now (list (cache_dir category.now) ∷ []))) }
+    ensures files { T.files tree.new ≡ T.files tree.old }
+    ensures around { around (T.entered tree.new) (T.lent tree.new) ≡ around (T.entered tree.old) (T.lent tree.old) }
+    ensures later { T.faults tree.old ≤ T.faults tree.new }
+{
+    let Ok(path) = cache_dir(alloc, category) else {
+        return Err(LoadFault::NoMemory);
+    };
+    match list_at(alloc, reader, tree, &path) {
+        Ok(names) => Ok(names),
+        Err(fault) => Err(fault),
+    }
+}
+
+// The package names among the folders of a category.
+fn list_packages<T: Tree>(
+    alloc: Global,
+    reader: &Reader,
+    tree: &mut T,
+    category: &Text,
+) -> Result<Texts, LoadFault>
+    requires { Knows (T.files tree.old) reader.now }
+    ensures value { IfOk result (λ value. IsTold (T.files tree.old) → value ≡ folders (look_in (T.files tree.old)) category.now) }
+    ensures went { OnOk result (Went (T.files tree.old) (T.faults tree.old) (T.faults tree.new) (list category.now ∷ []) reader.now reader.now) }
+    ensures cause { IfErr result (Cause (T.files tree.old) (T.faults tree.old) (T.faults tree.new) (passed (look_in (T.files tree.old)) reader.now (list category.now ∷ []))) }
+    ensures files { T.files tree.new ≡ T.files tree.old }
+    ensures around { around (T.entered tree.new) (T.lent tree.new) ≡ around (T.entered tree.old) (T.lent tree.old) }
+    ensures later { T.faults tree.old ≤ T.faults tree.new }
+{
+    let names = match list_at(alloc, reader, tree, category) {
+        Ok(names) => names,
+        Err(fault) => return Err(fault),
+    };
+    match packages_among(alloc, &names) {
+        Ok(names) => Ok(names),
+        Err(_) => Err(LoadFault::NoMemory),
+    }
+}
+
+// The same texts, as a set.
+fn set_of(alloc: Global, texts: &Texts) -> Result<BTreeSet<Text>, NoMemory>
+    ensures { IfOk result (λ set. (text : List ℕ) → has_text set.keys text ≡ has_text texts.now text) }
+{
+    let mut set = BTreeSet::new(alloc);
+    for text in texts.items() {
+        add_key(&mut set, text.copy(alloc)?)?;
+    }
+    Ok(set)
+}
+
+#[tactic(auto, using(crate::proofs::Listings::all_pass))]
+fn all_pfs(alloc: Global, entries: &Texts, ebuilds: &Texts) -> Result<Texts, NoMemory>
+    ensures value { IfOk result (λ pfs. pfs ≡ filter is_pf (in_order (entries.now ++ ebuilds.now))) }
+    ensures pfs { IfOk result (λ pfs. list_all is_pf pfs ≡ true) }
+{
+    let mut all = entries.copy(alloc)?;
+    for pf in ebuilds.items() {
+        all.add(pf.copy(alloc)?)?;
+    }
+    let names = all.in_order(alloc)?;
+    Ok(pfs_among(alloc, &names)?)
+}
+
+/// The names among a category's entries, and its PFs in byte order.
+#[derive(Drop)]
+pub(crate) struct Listing {
+    pub listed: BTreeSet<Text>,
+    pub pfs: Texts,
+}
+
+fn with_both(alloc: Global, entries: &Texts, ebuilds: &Texts) -> Result<Listing, NoMemory>
+    ensures listed { IfOk result (λ l. (text : List ℕ) → has_text l.listed.keys text ≡ has_text entries.now text) }
+    ensures value { IfOk result (λ l. l.pfs ≡ filter is_pf (in_order (entries.now ++ ebuilds.now))) }
+    ensures pfs { IfOk result (λ l. list_all is_pf l.pfs ≡ true) }
+{
+    let listed = set_of(alloc, entries)?;
+    let pfs = all_pfs(alloc, entries, ebuilds)?;
+    Ok(Listing { listed, pfs })
+}
+
+/// Lists a category.
+pub(crate) fn list_category<T: Tree>(
+    alloc: Global,
+    reader: &Reader,
+    tree: &mut T,
+    category: &Text,
+) -> Result<Listing, LoadFault>
+    requires { Knows (T.files tree.old) reader.now }
+    ensures listed { IfOk result (λ l. IsTold (T.files tree.old) → (text : List ℕ) → has_text l.listed.keys text ≡ has_text (listed (look_in (T.files tree.old)) category.now) text) }
+    ensures value { IfOk result (λ l. IsTold (T.files tree.old) → l.pfs ≡ pfs_of (look_in (T.files tree.old)) category.now) }
+    ensures pfs { IfOk result (λ l. list_all is_pf l.pfs ≡ true) }
+    ensures went { OnOk result (Went (T.files tree.old) (T.faults tree.old) (T.faults tree.new) (listing_steps (look_in (T.files tree.old)) category.now) reader.now reader.now) }
+    ensures cause { IfErr result (Cause (T.files tree.old) (T.faults tree.old) (T.faults tree.new) (passed (look_in (T.files tree.old)) reader.now (listing_steps (look_in (T.files tree.old)) category.now))) }
+    ensures files { T.files tree.new ≡ T.files tree.old }
+    ensures around { around (T.entered tree.new) (T.lent tree.new) ≡ around (T.entered tree.old) (T.lent tree.old) }
+    ensures later { T.faults tree.old ≤ T.faults tree.new }
+{
+    let entries = match list_entries(alloc, reader, tree, category) {
+        Ok(names) => names,
+        Err(fault) => return Err(fault),
+    };
+    let names = match list_packages(alloc, reader, tree, category) {
+        Ok(names) => names,
+        Err(fault) => return Err(fault),
+    };
+    let ebuilds = match list_folders(alloc, reader, tree, category, &names) {
+        Ok(pfs) => pfs,
+        Err(fault) => return Err(fault),
+    };
+    match with_both(alloc, &entries, &ebuilds) {
+        Ok(listing) => Ok(listing),
+        Err(_) => Err(LoadFault::NoMemory),
+    }
+}

@@ -1,0 +1,194 @@
+//! The digests of the eclasses that entries name. Each eclass is read once, and its bytes are let go.
+ghost use Rattle.std.specs.Prelude.{◌≡◌, ◌≤◌, ◌∷◌, [], ◌++◌, flat_map, map, IfOk, IfErr, OnOk, OnErr};
+ghost use Rattle.std.specs.FinMap as finite;
+ghost use Rattle.gv_base.specs.Order.{in_order};
+ghost use Rattle.gv_load.specs.Causes.{Cause, Knows, Went};
+ghost use Rattle.gv_load.specs.DigestMap.{digests_with, AllNamed, KeepsDigests};
+ghost use Rattle.gv_load.specs.Entries.{eclass_name, named_by, names_with, names_in, eclass_names, eclass_digest};
+ghost use Rattle.gv_load.specs.Look.{IsTold, look_in, around};
+ghost use Rattle.gv_load.specs.Order.{eclass_steps};
+ghost use Rattle.gv_load.specs.Paths.{eclass_path};
+ghost use Rattle.gv_load.specs.Reading.{passed, once};
+
+use crate::LoadFault;
+use crate::entries::{PfRead, PfReads};
+use crate::paths::eclass_path;
+use crate::reader::Reader;
+use gv_base::{NoMemory, Text, Texts, Tree, map_law};
+use gv_entry::Eclasses;
+use std::alloc::Global;
+use std::collections::BTreeMap;
+use std::marker::Model;
+
+/// A finite map from an eclass's name to the digest of its file.
+#[derive(Drop)]
+pub(crate) struct EclassDigests {
+    alloc: Global,
+    map: BTreeMap<Vec<u8>, [u8; 16]>,
+}
+
+impl Model for EclassDigests {
+    ghost use Rattle.gv_base.specs.ByteMap.{map_of};
+    ghost use Rattle.gv_load.specs.Digests.{DigestMap, coded_digests};
+
+    ghost Value = { DigestMap };
+
+    ghost coded = { coded_digests };
+
+    ghost view = { λ d. map_of d.map.entries };
+}
+
+impl EclassDigests {
+    /// No eclasses.
+    pub fn new(alloc: Global) -> EclassDigests
+        ensures { result ≡ finite.empty }
+    {
+        EclassDigests {
+            alloc,
+            map: BTreeMap::new(alloc),
+        }
+    }
+
+    /// Sets the digest of an eclass. After an error the map is unchanged.
+    pub fn put(&mut self, name: &Text, digest: [u8; 16]) -> Result<(), NoMemory>
+        ensures ok { OnOk result (self.new ≡ finite.insert self.old name.now digest) }
+        ensures err { OnErr result (self.new ≡ self.old) }
+    {
+        map_law::<[u8; 16]>();
+        let key = Vec::from_slice(self.alloc, name.bytes())?;
+        self.map.insert(key, digest)?;
+        Ok(())
+    }
+
+    /// The digest of an eclass, `None` exactly where its name isn't in the map.
+    pub fn get(&self, name: &[u8]) -> Option<[u8; 16]>
+        ensures { result ≡ finite.get self.now name.now }
+    {
+        map_law::<[u8; 16]>();
+        match self.map.get(name) {
+            Some(digest) => Some(*digest),
+            None => None,
+        }
+    }
+}
+
+fn add_names(alloc: Global, names: &mut Texts, eclasses: &Eclasses) -> Result<(), NoMemory>
+    ensures { OnOk result (names.new ≡ names.old ++ map eclass_name eclasses.now) }
+{
+    for e in eclasses.items() {
+        names.add(e.name.copy(alloc)?)?;
+    }
+    Ok(())
+}
+
+fn add_readable(
+    alloc: Global,
+    names: &mut Texts,
+    eclasses: &Option<Eclasses>,
+) -> Result<(), NoMemory>
+    ensures { OnOk result (names.new ≡ names.old ++ named_by eclasses.now) }
+{
+    match eclasses {
+        Some(eclasses) => Ok(add_names(alloc, names, eclasses)?),
+        None => Ok(()),
+    }
+}
+
+fn add_named(alloc: Global, names: &mut Texts, read: &PfRead) -> Result<(), NoMemory>
+    ensures { OnOk result (names.new ≡ names.old ++ names_in read.now) }
+{
+    match (&read.entry, &read.ebuild) {
+        (Some(entry), Some(_)) => Ok(add_readable(alloc, names, &entry.eclasses)?),
+        (Some(_), None) => Ok(()),
+        (None, _) => Ok(()),
+    }
+}
+
+/// The eclasses that entries with an ebuild name, in byte order, each once.
+#[tactic(auto, using(crate::proofs::JudgeLemmas::all_of_them))]
+pub(crate) fn eclass_names(alloc: Global, reads: &PfReads) -> Result<Texts, NoMemory>
+    ensures value { IfOk result (λ names. names ≡ eclass_names reads.now) }
+    ensures named { IfOk result (λ names. AllNamed names reads.now) }
+{
+    let names = all_names(alloc, reads)?;
+    Ok(names.in_order(alloc)?)
+}
+
+fn all_names(alloc: Global, reads: &PfReads) -> Result<Texts, NoMemory>
+    ensures { IfOk result (λ names. names ≡ flat_map names_in reads.now) }
+{
+    let mut names = Texts::new(alloc);
+    for read in reads.items() {
+        add_named(alloc, &mut names, read)?;
+    }
+    Ok(names)
+}
+
+fn put_if(
+    digests: &mut EclassDigests,
+    name: &Text,
+    digest: Option<[u8; 16]>,
+) -> Result<(), NoMemory>
+    ensures { OnOk result (digests.new ≡ digests_with digests.old name.now digest) }
+{
+    match digest {
+        Some(digest) => {
+            digests.put(name, digest)?;
+            Ok(())
+        }
+        None => Ok(()),
+    }
+}
+
+// Reads an eclass.
+fn read_eclass<T: Tree>(
+    alloc: Global,
+    reader: &mut Reader,
+    tree: &mut T,
+    name: &Text,
+    digests: &mut EclassDigests,
+) -> Result<(), LoadFault>
+    requires knows { Knows (T.files tree.old) reader.old }
+    ensures value { OnOk result (IsTold (T.files tree.old) → digests.new ≡ digests_with digests.old name.now (eclass_digest (look_in (T.files tree.old)) name.now)) }
+    ensures went { OnOk result (Went (T.files tree.old) (T.faults tree.old) (T.faults tree.new) (once (eclass_path name.now) ∷ []) reader.old reader.new) }
+    ensures cause { IfErr result (Cause (T.files tree.old) (T.faults tree.old) (T.faults tree.new) (passed (look_in (T.files tree.old)) reader.old (once (eclass_path name.now) ∷ []))) }
+    ensures files { T.files tree.new ≡ T.files tree.old }
+    ensures around { around (T.entered tree.new) (T.lent tree.new) ≡ around (T.entered tree.old) (T.lent tree.old) }
+    ensures later { T.faults tree.old ≤ T.faults tree.new }
+{
+    let Ok(path) = eclass_path(alloc, name) else {
+        return Err(LoadFault::NoMemory);
+    };
+    let digest = match reader.digest_once(tree, &path) {
+        Ok(digest) => digest,
+        Err(fault) => return Err(fault),
+    };
+    match put_if(digests, name, digest) {
+        Ok(()) => Ok(()),
+        Err(_) => Err(LoadFault::NoMemory),
+    }
+}
+
+/// Reads these eclasses, in their order, and keeps the digests of those that are files.
+pub(crate) fn read_eclasses<T: Tree>(
+    alloc: Global,
+    reader: &mut Reader,
+    tree: &mut T,
+    names: &Texts,
+) -> Result<EclassDigests, LoadFault>
+    requires knows { Knows (T.files tree.old) reader.old }
+    ensures value { IfOk result (λ digests. IsTold (T.files tree.old) → KeepsDigests (look_in (T.files tree.old)) names.now digests) }
+    ensures went { OnOk result (Went (T.files tree.old) (T.faults tree.old) (T.faults tree.new) (eclass_steps names.now) reader.old reader.new) }
+    ensures cause { IfErr result (Cause (T.files tree.old) (T.faults tree.old) (T.faults tree.new) (passed (look_in (T.files tree.old)) reader.old (eclass_steps names.now))) }
+    ensures files { T.files tree.new ≡ T.files tree.old }
+    ensures around { around (T.entered tree.new) (T.lent tree.new) ≡ around (T.entered tree.old) (T.lent tree.old) }
+    ensures later { T.faults tree.old ≤ T.faults tree.new }
+{
+    let mut digests = EclassDigests::new(alloc);
+    for name in names.items() {
+        if let Err(fault) = read_eclass(alloc, reader, tree, name, &mut digests) {
+            return Err(fault);
+        }
+    }
+    Ok(digests)
+}

@@ -1,0 +1,45 @@
+//! Loading: the files of a tree, read in order, as a repository.
+//!
+//! - `loading`: `load`, and what a repository is.
+//! - `faults`, `reader`: why loading ends, and what was read, so that no path is read twice.
+//! - `lists`: the lists at the top, and the repository's own masks.
+//! - `layout`, `named_files`, `directories`: the files of a profile directory.
+//! - `reaching`: the directories that are reached by parents, read when they are first reached.
+//! - `stacks`, `profiling`: the stacks of all lines, folded line by line, and what the directories have of bad lines.
+//! - `categories`, `entries`: the PFs of a category, and what is read of each.
+//! - `eclasses`, `judging`, `packages`: the digests of eclasses, whether an entry is current, and what each PF is.
+//! - `members`, `notes`: packages in their order, and the reports of what isn't one.
+//! - `laws`: each path is read once.
+//!
+//! The crate stands on `gv_base` for trees, `gv_profile` for profiles, `gv_entry` for entries and `gv_report` for reports.
+//! Layers above use `load` by its clause `repo`: over a tree that tells its files the result is `loading` of these.
+#![tactic(auto)]
+
+mod categories;
+mod directories;
+mod eclasses;
+mod entries;
+mod faults;
+mod judging;
+mod laws;
+mod layout;
+mod lists;
+mod loading;
+mod members;
+mod named_files;
+mod notes;
+mod packages;
+mod paths;
+mod profiling;
+mod reaching;
+mod reader;
+mod stacks;
+#[cfg(test)]
+mod test_script;
+#[cfg(test)]
+mod tests;
+
+pub use faults::LoadFault;
+pub use laws::once_law;
+pub use loading::{Repo, load};
+pub use members::Bodies;

@@ -1,0 +1,211 @@
+//! The lists at the top of a repository and its own masks (PMS chapter 4). O(bytes), and the categories are sorted.
+ghost use Rattle.std.specs.Prelude.{◌≡◌, ◌≤◌, ◌+◌, ◌++◌, IfOk, IfErr, OnOk, option_to_list};
+ghost use Rattle.gv_load.specs.Categories.{category_in, categories_in};
+ghost use Rattle.gv_load.specs.Causes.{Cause, Knows, Went};
+ghost use Rattle.gv_load.specs.Look.{IsTold, look_in, around};
+ghost use Rattle.gv_load.specs.Notes.{bad_category, category_detail, category_notes, is_bad_category};
+ghost use Rattle.gv_load.specs.Order.{list_steps};
+ghost use Rattle.gv_load.specs.Paths.{desc_path, categories_path, mask_path};
+ghost use Rattle.gv_load.specs.Read.{lists_of, lists_with, top_paths};
+ghost use Rattle.gv_load.specs.Reading.{passed};
+ghost use Rattle.gv_profile.specs.Lines.{line_words};
+
+use crate::LoadFault;
+use crate::named_files::read_files;
+use crate::paths::{categories_path, desc_path, mask_path};
+use crate::reader::Reader;
+use gv_base::{Cut, NoMemory, Text, Texts, Tree, next_piece};
+use gv_profile::{
+    DescLines, DescRead, NamedFiles, PlaceNote, PlaceNotes, line_words, mask_notes, read_desc,
+};
+use gv_version::is_category;
+use std::alloc::Global;
+
+/// The paths that are read first.
+#[derive(Drop)]
+pub(crate) struct TopPaths {
+    desc: Text,
+    categories: Text,
+    masks: Text,
+}
+
+/// What these paths say.
+#[derive(Drop)]
+pub(crate) struct Lists {
+    pub lines: DescLines,
+    /// In byte order, each once.
+    pub categories: Texts,
+    pub masks: NamedFiles,
+    /// The bad lines of all three.
+    pub notes: PlaceNotes,
+}
+
+/// The paths.
+pub(crate) fn top_paths(alloc: Global) -> Result<TopPaths, NoMemory>
+    ensures { IfOk result (λ paths. paths ≡ top_paths) }
+{
+    Ok(TopPaths {
+        desc: desc_path(alloc)?,
+        categories: categories_path(alloc)?,
+        masks: mask_path(alloc)?,
+    })
+}
+
+/// Reads both lists, which have to be there, and the repository's own masks.
+pub(crate) fn read_lists<T: Tree>(
+    alloc: Global,
+    reader: &mut Reader,
+    tree: &mut T,
+    paths: &TopPaths,
+) -> Result<Lists, LoadFault>
+    requires knows { Knows (T.files tree.old) reader.old }
+    requires paths { paths.now ≡ top_paths }
+    ensures value { IfOk result (λ value. IsTold (T.files tree.old) → value ≡ lists_of (look_in (T.files tree.old))) }
+    ensures went { OnOk result (Went (T.files tree.old) (T.faults tree.old) (T.faults tree.new) (list_steps (look_in (T.files tree.old))) reader.old reader.new) }
+    ensures cause { IfErr result (Cause (T.files tree.old) (T.faults tree.old) (T.faults tree.new) (passed (look_in (T.files tree.old)) reader.old (list_steps (look_in (T.files tree.old))))) }
+    ensures files { T.files tree.new ≡ T.files tree.old }
+    ensures around { around (T.entered tree.new) (T.lent tree.new) ≡ around (T.entered tree.old) (T.lent tree.old) }
+    ensures later { T.faults tree.old ≤ T.faults tree.new }
+{
+    let desc = match reader.need(tree, &paths.desc) {
+        Ok(desc) => desc,
+        Err(fault) => return Err(fault),
+    };
+    let categories = match reader.need(tree, &paths.categories) {
+        Ok(categories) => categories,
+        Err(fault) => return Err(fault),
+    };
+    let masks = match read_files(alloc, reader, tree, &paths.masks) {
+        Ok(masks) => masks,
+        Err(fault) => return Err(fault),
+    };
+    match lists_with(alloc, &desc, &categories, masks) {
+        Ok(lists) => Ok(lists),
+        Err(_) => Err(LoadFault::NoMemory),
+    }
+}
+
+/// Adds notes behind others.
+pub(crate) fn add_notes(
+    alloc: Global,
+    notes: &mut PlaceNotes,
+    more: &PlaceNotes,
+) -> Result<(), NoMemory>
+    ensures { OnOk result (notes.new ≡ notes.old ++ more.now) }
+{
+    for note in more.items() {
+        notes.add(note.copy(alloc)?)?;
+    }
+    Ok(())
+}
+
+fn lists_with(
+    alloc: Global,
+    desc: &Text,
+    categories: &Text,
+    masks: NamedFiles,
+) -> Result<Lists, NoMemory>
+    ensures { IfOk result (λ lists. lists ≡ lists_with desc.now categories.now masks) }
+{
+    let DescRead { lines, mut notes } = read_desc(alloc, desc.bytes())?;
+    add_notes(
+        alloc,
+        &mut notes,
+        &category_notes(alloc, categories.bytes())?,
+    )?;
+    add_notes(alloc, &mut notes, &mask_notes(alloc, &masks)?)?;
+    let categories = categories_in(alloc, categories.bytes())?;
+    Ok(Lists {
+        lines,
+        categories,
+        masks,
+        notes,
+    })
+}
+
+fn category_in(alloc: Global, words: &[Text]) -> Result<Option<Text>, NoMemory>
+    ensures { IfOk result (λ category. category ≡ category_in words.now) }
+{
+    match words {
+        [word] => {
+            if is_category(word.bytes()) {
+                Ok(Some(word.copy(alloc)?))
+            } else {
+                Ok(None)
+            }
+        }
+        _ => Ok(None),
+    }
+}
+
+fn categories_in(alloc: Global, bytes: &[u8]) -> Result<Texts, NoMemory>
+    ensures { IfOk result (λ categories. categories ≡ categories_in bytes.now) }
+{
+    let mut categories = Texts::new(alloc);
+    let mut rest = Some(bytes);
+    while let Some(line) = next_piece(&mut rest, Cut::Lines) {
+        let words = line_words(alloc, line)?;
+        match category_in(alloc, words.items())? {
+            Some(category) => categories.add(category)?,
+            None => {}
+        }
+    }
+    Ok(categories.in_order(alloc)?)
+}
+
+fn is_bad_category(words: &[Text]) -> bool
+    ensures { result ≡ is_bad_category words.now }
+{
+    match words {
+        [] => false,
+        [word] => !is_category(word.bytes()),
+        _ => true,
+    }
+}
+
+#[tactic(auto, unfolding(crate::specs::Notes::category_detail))]
+fn category_detail(alloc: Global) -> Result<Text, NoMemory>
+    ensures { IfOk result (λ detail. detail ≡ category_detail) }
+{
+    Text::of(alloc, b"bad category")
+}
+
+fn note_category(
+    alloc: Global,
+    notes: &mut PlaceNotes,
+    line: u32,
+    words: &[Text],
+) -> Result<(), NoMemory>
+    ensures { OnOk result (notes.new ≡ notes.old ++ option_to_list (bad_category line words.now)) }
+{
+    if is_bad_category(words) {
+        let path = categories_path(alloc)?;
+        let detail = category_detail(alloc)?;
+        notes.add(PlaceNote { path, line, detail })?;
+    }
+    Ok(())
+}
+
+// A list has room for fewer than 2^32 items; a longer one finds no memory.
+fn next_line(line: u32) -> Result<u32, NoMemory>
+    ensures { IfOk result (λ next. next ≡ line + 1) }
+{
+    match line.checked_add(1) {
+        Some(next) => Ok(next),
+        None => Err(NoMemory),
+    }
+}
+
+fn category_notes(alloc: Global, bytes: &[u8]) -> Result<PlaceNotes, NoMemory>
+    ensures { IfOk result (λ notes. notes ≡ category_notes bytes.now) }
+{
+    let mut notes = PlaceNotes::new(alloc);
+    let mut rest = Some(bytes);
+    let mut line = 1u32;
+    while let Some(piece) = next_piece(&mut rest, Cut::Lines) {
+        let words = line_words(alloc, piece)?;
+        note_category(alloc, &mut notes, line, words.items())?;
+        line = next_line(line)?;
+    }
+    Ok(notes)
+}

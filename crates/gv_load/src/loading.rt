@@ -1,0 +1,150 @@
+//! A repository, read from a tree in a fixed order up to the first refusal.
+//!
+//! Costs O(the bytes that are read and the names that are listed), O(log n) comparisons for each path among those that
+//! were read, and what folding the stacks costs. Files of profiles are kept until the end; of an entry what it says is
+//! kept, and of ebuilds and eclasses their digests.
+ghost use Rattle.std.specs.Prelude.{◌≡◌, ◌≤◌, Ok, length, IfOk, IfErr, IfSome, OnOk};
+ghost use Rattle.gv_load.specs.Causes.{Cause, Knows, Went};
+ghost use Rattle.gv_load.specs.Layout.{layout};
+ghost use Rattle.gv_load.specs.Loading.{LoadCause, loading};
+ghost use Rattle.gv_load.specs.Look.{IsTold, around, look_in, look_of};
+ghost use Rattle.gv_load.specs.Order.{load_steps};
+ghost use Rattle.gv_load.specs.Read.{notes_with, repo_with, top_paths};
+ghost use Rattle.gv_load.specs.Reading.{passed};
+ghost use Rattle.gv_load.specs.Repository.{AreInPackageOrder, repository};
+
+use crate::LoadFault;
+use crate::judging::PfsKept;
+use crate::layout::{Layout, dir_names};
+use crate::lists::{Lists, TopPaths, read_lists, top_paths};
+use crate::members::{Bodies, packages_in};
+use crate::notes::{add_pfs, add_places};
+use crate::packages::read_packages;
+use crate::profiling::{Profiled, read_profiles};
+use crate::reader::Reader;
+use gv_base::{NoMemory, Tree};
+use gv_facts::{Pkgs, Profiles};
+use gv_profile::DescLines;
+use gv_report::{Keyword, Reports};
+use std::alloc::Global;
+
+/// A repository.
+#[derive(Drop)]
+pub struct Repo {
+    /// The packages that current entries say, in package order: by category, name, version and PF.
+    pub pkgs: Pkgs,
+    /// Their expressions, one body for each package.
+    pub bodies: Bodies,
+    /// Those of the lines whose stack has no fault.
+    pub profiles: Profiles,
+    /// The lines of `profiles/profiles.desc` that count.
+    pub lines: DescLines,
+    /// What is told of profiles and entries: bad lines, stacks with a fault, errors of current entries, and PFs that are
+    /// stale, orphans or missing.
+    pub notes: Reports,
+}
+
+/// The repository that stands in a tree, or the first refusal in reading order.
+///
+/// `Tree` comes with the path of the call that failed, and only where the tree's count of faults rose; `NotARepository`
+/// where a list that has to be there is no file; `Limit` with the limit's number where it is passed: a path of more than
+/// 4,096 bytes that would be read or listed, a file of more than 16,777,216 bytes, a file after 400,000 that were found,
+/// and a stack of more than 4,096 visits.
+pub fn load<T: Tree>(alloc: Global, tree: &mut T) -> Result<Repo, LoadFault>
+    ensures repo { IfOk result (λ repo. IfSome (T.files tree.old) (λ files. loading (look_of files) ≡ Ok repo)) }
+    ensures bodies { IfOk result (λ repo. length repo.bodies ≡ length repo.pkgs) }
+    ensures order { IfOk result (λ repo. AreInPackageOrder repo.pkgs) }
+    ensures cause { IfErr result (LoadCause (T.files tree.old) (T.faults tree.old) (T.faults tree.new)) }
+    ensures files { T.files tree.new ≡ T.files tree.old }
+    ensures root { T.entered tree.new ≡ T.entered tree.old }
+    ensures lent { T.lent tree.new ≡ T.lent tree.old }
+    ensures later { T.faults tree.old ≤ T.faults tree.new }
+    ensures calm { OnOk result (T.faults tree.new ≡ T.faults tree.old) }
+{
+    let Ok(paths) = top_paths(alloc) else {
+        return Err(LoadFault::NoMemory);
+    };
+    let Ok(names) = dir_names(alloc) else {
+        return Err(LoadFault::NoMemory);
+    };
+    let mut reader = Reader::new(alloc);
+    match read_repo(alloc, &mut reader, tree, &paths, &names) {
+        Ok(repo) => Ok(repo),
+        Err(fault) => Err(fault),
+    }
+}
+
+// Reads the lists, the profiles and the packages.
+fn read_repo<T: Tree>(
+    alloc: Global,
+    reader: &mut Reader,
+    tree: &mut T,
+    paths: &TopPaths,
+    names: &Layout,
+) -> Result<Repo, LoadFault>
+    requires knows { Knows (T.files tree.old) reader.old }
+    requires paths { paths.now ≡ top_paths }
+    requires names { names.now ≡ layout }
+    ensures value { IfOk result (λ value. IsTold (T.files tree.old) → value ≡ repository (look_in (T.files tree.old))) }
+    ensures bodies { IfOk result (λ repo. length repo.bodies ≡ length repo.pkgs) }
+    ensures order { IfOk result (λ repo. AreInPackageOrder repo.pkgs) }
+    ensures went { OnOk result (Went (T.files tree.old) (T.faults tree.old) (T.faults tree.new) (load_steps (look_in (T.files tree.old))) reader.old reader.new) }
+    ensures cause { IfErr result (Cause (T.files tree.old) (T.faults tree.old) (T.faults tree.new) (passed (look_in (T.files tree.old)) reader.old (load_steps (look_in (T.files tree.old))))) }
+    ensures files { T.files tree.new ≡ T.files tree.old }
+    ensures around { around (T.entered tree.new) (T.lent tree.new) ≡ around (T.entered tree.old) (T.lent tree.old) }
+    ensures later { T.faults tree.old ≤ T.faults tree.new }
+{
+    let lists = match read_lists(alloc, reader, tree, paths) {
+        Ok(lists) => lists,
+        Err(fault) => return Err(fault),
+    };
+    let profiled = match read_profiles(alloc, reader, tree, names, &lists.masks, &lists.lines) {
+        Ok(profiled) => profiled,
+        Err(fault) => return Err(fault),
+    };
+    let kepts = match read_packages(alloc, reader, tree, &lists.categories) {
+        Ok(kepts) => kepts,
+        Err(fault) => return Err(fault),
+    };
+    match repo_with(alloc, lists, profiled, kepts) {
+        Ok(repo) => Ok(repo),
+        Err(_) => Err(LoadFault::NoMemory),
+    }
+}
+
+fn repo_with(
+    alloc: Global,
+    lists: Lists,
+    profiled: Profiled,
+    kepts: PfsKept,
+) -> Result<Repo, NoMemory>
+    ensures repo { IfOk result (λ repo. repo ≡ repo_with lists profiled kepts) }
+    ensures bodies { IfOk result (λ repo. length repo.bodies ≡ length repo.pkgs) }
+    ensures order { IfOk result (λ repo. AreInPackageOrder repo.pkgs) }
+{
+    let notes = notes_with(alloc, &lists, &profiled, &kepts)?;
+    let packages = packages_in(alloc, kepts)?;
+    Ok(Repo {
+        pkgs: packages.pkgs,
+        bodies: packages.bodies,
+        profiles: profiled.profiles,
+        lines: lists.lines,
+        notes,
+    })
+}
+
+fn notes_with(
+    alloc: Global,
+    lists: &Lists,
+    profiled: &Profiled,
+    kepts: &PfsKept,
+) -> Result<Reports, NoMemory>
+    ensures { IfOk result (λ notes. notes ≡ notes_with lists.now profiled.now kepts.now) }
+{
+    let mut notes = Reports::new(alloc);
+    add_places(alloc, &mut notes, Keyword::ProfileNote, &lists.notes)?;
+    add_places(alloc, &mut notes, Keyword::ProfileNote, &profiled.notes)?;
+    add_places(alloc, &mut notes, Keyword::ProfileError, &profiled.errors)?;
+    add_pfs(alloc, &mut notes, kepts)?;
+    Ok(notes)
+}

@@ -1,0 +1,357 @@
+//! The directories that the lines of `profiles.desc` reach by parents, depth first, each read when it is first reached.
+//!
+//! A directory costs O(log n) comparisons of paths for n directories for each line that names it, and its files once. The
+//! way is kept in a list, so that no depth ends the program's own stack.
+ghost use Rattle.std.specs.FinMap as finite;
+ghost use Rattle.std.specs.Prelude.{◌≡◌, ◌≤◌, ◌<◌, ◌∷◌, [], ◌++◌, ◌||◌, false, ℕ, List, Ok, length, IfOk, IfErr, OnOk};
+ghost use Rattle.std.specs.Str.{bytes_eq};
+ghost use Rattle.gv_base.specs.Order.{has_text};
+ghost use Rattle.gv_load.specs.Ahead.{reached_after, ahead_of, dirs_with, IsIndexed, KeepsDirs, steps_of};
+ghost use Rattle.gv_load.specs.Causes.{Cause, Knows, Went};
+ghost use Rattle.gv_load.specs.Closed.{IsClosed, IsClosedBut, paths_left, HaveSameStacks};
+ghost use Rattle.gv_load.specs.Directories.{dir_at, dir_steps};
+ghost use Rattle.gv_load.specs.Known.{Seen};
+ghost use Rattle.gv_load.specs.Layout.{layout};
+ghost use Rattle.gv_load.specs.Look.{IsTold, look_in, around};
+ghost use Rattle.gv_load.specs.Reach.{paths_of, reach_below, reached_by, from_line};
+ghost use Rattle.gv_load.specs.Reading.{passed};
+ghost use Rattle.gv_profile.specs.Walk.{line_dir};
+
+use crate::LoadFault;
+use crate::directories::read_directory;
+use crate::layout::Layout;
+use crate::reader::Reader;
+use gv_base::{NoMemory, Text, Texts, Tree, in_order_law};
+use gv_profile::{DescLine, DescLines, DirFiles, Dirs, line_dir, parents_of};
+use std::alloc::Global;
+use std::collections::BTreeSet;
+
+// The parents of a directory, of which the first were gone to.
+#[derive(Drop)]
+pub(crate) struct Ahead {
+    paths: Texts,
+    next: usize,
+}
+
+/// The paths that were reached, in order, and the files of those that are directories.
+#[derive(Drop)]
+pub(crate) struct Reached {
+    /// Every path that was reached.
+    pub order: Texts,
+    set: BTreeSet<Text>,
+    /// By path.
+    pub dirs: Dirs,
+}
+
+// No chain is so long: each of its directories has a file, and more files are refused.
+const MAX_DEPTH: u64 = 400_001;
+
+/// Whether the text is in the set.
+pub(crate) fn has_key(set: &BTreeSet<Text>, text: &Text) -> bool
+    ensures { result ≡ has_text set.now.keys text.now }
+{
+    set.contains(text)
+}
+
+/// Adds a text to the set.
+pub(crate) fn add_key(set: &mut BTreeSet<Text>, word: Text) -> Result<(), NoMemory>
+    ensures { OnOk result ((text : List ℕ) → has_text set.new.keys text ≡ (bytes_eq text word || has_text set.old.keys text)) }
+{
+    in_order_law();
+    set.insert(word)?;
+    Ok(())
+}
+
+// The paths of a directory's parents.
+fn paths_of(alloc: Global, dir: &Text, files: &DirFiles) -> Result<Texts, NoMemory>
+    ensures { IfOk result (λ paths. paths ≡ paths_of dir.now files.now) }
+{
+    let mut paths = Texts::new(alloc);
+    let parents = parents_of(alloc, dir, files)?;
+    for parent in parents.items() {
+        match &parent.path {
+            Some(path) => paths.add(path.copy(alloc)?)?,
+            None => {}
+        }
+    }
+    Ok(paths)
+}
+
+fn push_ahead(
+    alloc: Global,
+    ahead: &mut Vec<Ahead>,
+    dir: &Text,
+    files: &Option<DirFiles>,
+) -> Result<(), NoMemory>
+    ensures { OnOk result (ahead.new.items ≡ ahead.old.items ++ ahead_of dir.now files.now) }
+{
+    match files {
+        Some(files) => {
+            let paths = paths_of(alloc, dir, files)?;
+            ahead.push(Ahead { paths, next: 0 })?;
+            Ok(())
+        }
+        None => Ok(()),
+    }
+}
+
+fn keep_dir(dirs: &mut Dirs, dir: &Text, files: Option<DirFiles>) -> Result<(), NoMemory>
+    ensures { OnOk result (dirs.new ≡ dirs_with dirs.old dir.now files) }
+{
+    match files {
+        Some(files) => {
+            dirs.put(dir, files)?;
+            Ok(())
+        }
+        None => Ok(()),
+    }
+}
+
+// Notes what was read of a path that was not reached before.
+fn keep(
+    alloc: Global,
+    reached: Reached,
+    dir: Text,
+    files: Option<DirFiles>,
+    ahead: &mut Vec<Ahead>,
+) -> Result<Reached, NoMemory>
+    requires { IsIndexed reached }
+    ensures order { IfOk result (λ r. r.order ≡ reached.order ++ dir ∷ []) }
+    ensures dirs { IfOk result (λ r. r.dirs ≡ dirs_with reached.dirs dir files) }
+    ensures indexed { IfOk result IsIndexed }
+    ensures ahead { OnOk result (ahead.new.items ≡ ahead.old.items ++ ahead_of dir files) }
+{
+    let Reached {
+        mut order,
+        mut set,
+        mut dirs,
+    } = reached;
+    push_ahead(alloc, ahead, &dir, &files)?;
+    keep_dir(&mut dirs, &dir, files)?;
+    add_key(&mut set, dir.copy(alloc)?)?;
+    order.add(dir)?;
+    Ok(Reached { order, set, dirs })
+}
+
+// Reads a path that was not reached before.
+fn visit<T: Tree>(
+    alloc: Global,
+    reader: &mut Reader,
+    tree: &mut T,
+    names: &Layout,
+    reached: Reached,
+    dir: Text,
+    ahead: &mut Vec<Ahead>,
+) -> Result<Reached, LoadFault>
+    requires knows { Knows (T.files tree.old) reader.old }
+    requires names { names.now ≡ layout }
+    requires indexed { IsIndexed reached }
+    requires fresh { has_text reached.order dir ≡ false }
+    ensures order { IfOk result (λ r. r.order ≡ reached.order ++ dir ∷ []) }
+    ensures ahead { OnOk result (IsTold (T.files tree.old) → ahead.new.items ≡ ahead.old.items ++ ahead_of dir (dir_at (look_in (T.files tree.old)) dir)) }
+    ensures dirs { IfOk result (λ r. IsTold (T.files tree.old) → r.dirs ≡ dirs_with reached.dirs dir (dir_at (look_in (T.files tree.old)) dir)) }
+    ensures indexed { IfOk result IsIndexed }
+    ensures went { OnOk result (Went (T.files tree.old) (T.faults tree.old) (T.faults tree.new) (dir_steps (look_in (T.files tree.old)) dir) reader.old reader.new) }
+    ensures cause { IfErr result (Cause (T.files tree.old) (T.faults tree.old) (T.faults tree.new) (passed (look_in (T.files tree.old)) reader.old (dir_steps (look_in (T.files tree.old)) dir))) }
+    ensures files { T.files tree.new ≡ T.files tree.old }
+    ensures around { around (T.entered tree.new) (T.lent tree.new) ≡ around (T.entered tree.old) (T.lent tree.old) }
+    ensures later { T.faults tree.old ≤ T.faults tree.new }
+{
+    let files = match read_directory(alloc, reader, tree, names, &dir) {
+        Ok(files) => files,
+        Err(fault) => return Err(fault),
+    };
+    match keep(alloc, reached, dir, files, ahead) {
+        Ok(reached) => Ok(reached),
+        Err(_) => Err(LoadFault::NoMemory),
+    }
+}
+
+// Comes to a path.
+fn arrive<T: Tree>(
+    alloc: Global,
+    reader: &mut Reader,
+    tree: &mut T,
+    names: &Layout,
+    reached: Reached,
+    dir: Text,
+    ahead: &mut Vec<Ahead>,
+) -> Result<Reached, LoadFault>
+    requires knows { Knows (T.files tree.old) reader.old }
+    requires names { names.now ≡ layout }
+    requires indexed { IsIndexed reached }
+    ensures order { IfOk result (λ r. IsTold (T.files tree.old) → reached_after (dir_at (look_in (T.files tree.old))) 0 ahead.new.items r.order ≡ reached_after (dir_at (look_in (T.files tree.old))) 0 ahead.old.items (reach_below (dir_at (look_in (T.files tree.old))) (length ahead.old.items) reached.order dir)) }
+    ensures passed { IfOk result (λ r. (start : Seen) → IsTold (T.files tree.old) → passed (look_in (T.files tree.old)) start (steps_of (look_in (T.files tree.old)) reached.order) ≡ Ok reader.old → passed (look_in (T.files tree.old)) start (steps_of (look_in (T.files tree.old)) r.order) ≡ Ok reader.new) }
+    ensures dirs { IfOk result (λ r. IsTold (T.files tree.old) → KeepsDirs (look_in (T.files tree.old)) reached → KeepsDirs (look_in (T.files tree.old)) r) }
+    ensures closed { IfOk result (λ r. IsTold (T.files tree.old) → IsClosedBut (dir_at (look_in (T.files tree.old))) reached.order (dir ∷ paths_left ahead.old.items) → IsClosedBut (dir_at (look_in (T.files tree.old))) r.order (paths_left ahead.new.items)) }
+    ensures indexed { IfOk result IsIndexed }
+    ensures knows { OnOk result (Knows (T.files tree.old) reader.new) }
+    ensures calm { OnOk result (T.faults tree.new ≡ T.faults tree.old) }
+    ensures cause { IfErr result (λ fault. (start : Seen) → (IsTold (T.files tree.old) → passed (look_in (T.files tree.old)) start (steps_of (look_in (T.files tree.old)) reached.order) ≡ Ok reader.old) → Cause (T.files tree.old) (T.faults tree.old) (T.faults tree.new) (passed (look_in (T.files tree.old)) start (steps_of (look_in (T.files tree.old)) (reached_after (dir_at (look_in (T.files tree.old))) 0 ahead.old.items (reach_below (dir_at (look_in (T.files tree.old))) (length ahead.old.items) reached.order dir)))) fault) }
+    ensures files { T.files tree.new ≡ T.files tree.old }
+    ensures around { around (T.entered tree.new) (T.lent tree.new) ≡ around (T.entered tree.old) (T.lent tree.old) }
+    ensures later { T.faults tree.old ≤ T.faults tree.new }
+{
+    if ahead.len() as u64 >= MAX_DEPTH {
+        return Err(LoadFault::NoMemory);
+    }
+    if has_key(&reached.set, &dir) {
+        return Ok(reached);
+    }
+    match visit(alloc, reader, tree, names, reached, dir, ahead) {
+        Ok(reached) => Ok(reached),
+        Err(fault) => Err(fault),
+    }
+}
+
+// Goes to the next parent of the last directory.
+fn go_on<T: Tree>(
+    alloc: Global,
+    reader: &mut Reader,
+    tree: &mut T,
+    names: &Layout,
+    reached: Reached,
+    mut rest: Ahead,
+    ahead: &mut Vec<Ahead>,
+) -> Result<Reached, LoadFault>
+    requires knows { Knows (T.files tree.old) reader.old }
+    requires names { names.now ≡ layout }
+    requires indexed { IsIndexed reached }
+    ensures order { IfOk result (λ r. IsTold (T.files tree.old) → reached_after (dir_at (look_in (T.files tree.old))) 0 ahead.new.items r.order ≡ reached_after (dir_at (look_in (T.files tree.old))) 0 (ahead.old.items ++ rest ∷ []) reached.order) }
+    ensures passed { IfOk result (λ r. (start : Seen) → IsTold (T.files tree.old) → passed (look_in (T.files tree.old)) start (steps_of (look_in (T.files tree.old)) reached.order) ≡ Ok reader.old → passed (look_in (T.files tree.old)) start (steps_of (look_in (T.files tree.old)) r.order) ≡ Ok reader.new) }
+    ensures dirs { IfOk result (λ r. IsTold (T.files tree.old) → KeepsDirs (look_in (T.files tree.old)) reached → KeepsDirs (look_in (T.files tree.old)) r) }
+    ensures closed { IfOk result (λ r. IsTold (T.files tree.old) → IsClosedBut (dir_at (look_in (T.files tree.old))) reached.order (paths_left (ahead.old.items ++ rest ∷ [])) → IsClosedBut (dir_at (look_in (T.files tree.old))) r.order (paths_left ahead.new.items)) }
+    ensures indexed { IfOk result IsIndexed }
+    ensures knows { OnOk result (Knows (T.files tree.old) reader.new) }
+    ensures calm { OnOk result (T.faults tree.new ≡ T.faults tree.old) }
+    ensures cause { IfErr result (λ fault. (start : Seen) → (IsTold (T.files tree.old) → passed (look_in (T.files tree.old)) start (steps_of (look_in (T.files tree.old)) reached.order) ≡ Ok reader.old) → Cause (T.files tree.old) (T.faults tree.old) (T.faults tree.new) (passed (look_in (T.files tree.old)) start (steps_of (look_in (T.files tree.old)) (reached_after (dir_at (look_in (T.files tree.old))) 0 (ahead.old.items ++ rest ∷ []) reached.order))) fault) }
+    ensures files { T.files tree.new ≡ T.files tree.old }
+    ensures around { around (T.entered tree.new) (T.lent tree.new) ≡ around (T.entered tree.old) (T.lent tree.old) }
+    ensures later { T.faults tree.old ≤ T.faults tree.new }
+{
+    let Some(path) = rest.paths.items().get(rest.next) else {
+        return Ok(reached);
+    };
+    let Ok(path) = path.copy(alloc) else {
+        return Err(LoadFault::NoMemory);
+    };
+    rest.next += 1;
+    let Ok(()) = ahead.push(rest) else {
+        return Err(LoadFault::NoMemory);
+    };
+    match arrive(alloc, reader, tree, names, reached, path, ahead) {
+        Ok(reached) => Ok(reached),
+        Err(fault) => Err(fault),
+    }
+}
+
+// Reaches a directory and all that it leads to.
+fn read_from<T: Tree>(
+    alloc: Global,
+    reader: &mut Reader,
+    tree: &mut T,
+    names: &Layout,
+    reached: Reached,
+    dir: Text,
+) -> Result<Reached, LoadFault>
+    requires knows { Knows (T.files tree.old) reader.old }
+    requires names { names.now ≡ layout }
+    requires indexed { IsIndexed reached }
+    ensures order { IfOk result (λ r. IsTold (T.files tree.old) → r.order ≡ reach_below (dir_at (look_in (T.files tree.old))) 0 reached.order dir) }
+    ensures passed { IfOk result (λ r. (start : Seen) → IsTold (T.files tree.old) → passed (look_in (T.files tree.old)) start (steps_of (look_in (T.files tree.old)) reached.order) ≡ Ok reader.old → passed (look_in (T.files tree.old)) start (steps_of (look_in (T.files tree.old)) r.order) ≡ Ok reader.new) }
+    ensures dirs { IfOk result (λ r. IsTold (T.files tree.old) → KeepsDirs (look_in (T.files tree.old)) reached → KeepsDirs (look_in (T.files tree.old)) r) }
+    ensures closed { IfOk result (λ r. IsTold (T.files tree.old) → IsClosed (dir_at (look_in (T.files tree.old))) reached.order → IsClosed (dir_at (look_in (T.files tree.old))) r.order) }
+    ensures indexed { IfOk result IsIndexed }
+    ensures knows { OnOk result (Knows (T.files tree.old) reader.new) }
+    ensures calm { OnOk result (T.faults tree.new ≡ T.faults tree.old) }
+    ensures cause { IfErr result (λ fault. (start : Seen) → (IsTold (T.files tree.old) → passed (look_in (T.files tree.old)) start (steps_of (look_in (T.files tree.old)) reached.order) ≡ Ok reader.old) → Cause (T.files tree.old) (T.faults tree.old) (T.faults tree.new) (passed (look_in (T.files tree.old)) start (steps_of (look_in (T.files tree.old)) (reach_below (dir_at (look_in (T.files tree.old))) 0 reached.order dir))) fault) }
+    ensures files { T.files tree.new ≡ T.files tree.old }
+    ensures around { around (T.entered tree.new) (T.lent tree.new) ≡ around (T.entered tree.old) (T.lent tree.old) }
+    ensures later { T.faults tree.old ≤ T.faults tree.new }
+{
+    let mut ahead = Vec::new(alloc);
+    let mut now = match arrive(alloc, reader, tree, names, reached, dir, &mut ahead) {
+        Ok(reached) => reached,
+        Err(fault) => return Err(fault),
+    };
+    for _ in 0..u64::MAX {
+        let Some(rest) = ahead.pop() else {
+            return Ok(now);
+        };
+        now = match go_on(alloc, reader, tree, names, now, rest, &mut ahead) {
+            Ok(reached) => reached,
+            Err(fault) => return Err(fault),
+        };
+    }
+    Err(LoadFault::NoMemory)
+}
+
+// Reaches the directory of a line, where it has one.
+fn read_line<T: Tree>(
+    alloc: Global,
+    reader: &mut Reader,
+    tree: &mut T,
+    names: &Layout,
+    reached: Reached,
+    line: &DescLine,
+) -> Result<Reached, LoadFault>
+    requires knows { Knows (T.files tree.old) reader.old }
+    requires names { names.now ≡ layout }
+    requires indexed { IsIndexed reached }
+    ensures order { IfOk result (λ r. IsTold (T.files tree.old) → r.order ≡ from_line (dir_at (look_in (T.files tree.old))) reached.order (line_dir line.now)) }
+    ensures passed { IfOk result (λ r. (start : Seen) → IsTold (T.files tree.old) → passed (look_in (T.files tree.old)) start (steps_of (look_in (T.files tree.old)) reached.order) ≡ Ok reader.old → passed (look_in (T.files tree.old)) start (steps_of (look_in (T.files tree.old)) r.order) ≡ Ok reader.new) }
+    ensures dirs { IfOk result (λ r. IsTold (T.files tree.old) → KeepsDirs (look_in (T.files tree.old)) reached → KeepsDirs (look_in (T.files tree.old)) r) }
+    ensures closed { IfOk result (λ r. IsTold (T.files tree.old) → IsClosed (dir_at (look_in (T.files tree.old))) reached.order → IsClosed (dir_at (look_in (T.files tree.old))) r.order) }
+    ensures indexed { IfOk result IsIndexed }
+    ensures knows { OnOk result (Knows (T.files tree.old) reader.new) }
+    ensures calm { OnOk result (T.faults tree.new ≡ T.faults tree.old) }
+    ensures cause { IfErr result (λ fault. (start : Seen) → (IsTold (T.files tree.old) → passed (look_in (T.files tree.old)) start (steps_of (look_in (T.files tree.old)) reached.order) ≡ Ok reader.old) → Cause (T.files tree.old) (T.faults tree.old) (T.faults tree.new) (passed (look_in (T.files tree.old)) start (steps_of (look_in (T.files tree.old)) (from_line (dir_at (look_in (T.files tree.old))) reached.order (line_dir line.now)))) fault) }
+    ensures files { T.files tree.new ≡ T.files tree.old }
+    ensures around { around (T.entered tree.new) (T.lent tree.new) ≡ around (T.entered tree.old) (T.lent tree.old) }
+    ensures later { T.faults tree.old ≤ T.faults tree.new }
+{
+    match line_dir(alloc, line) {
+        Ok(Some(dir)) => match read_from(alloc, reader, tree, names, reached, dir) {
+            Ok(reached) => Ok(reached),
+            Err(fault) => Err(fault),
+        },
+        Ok(None) => Ok(reached),
+        Err(_) => Err(LoadFault::NoMemory),
+    }
+}
+
+/// The directories that the lines reach by parents, in the order in which they are read, with their files. Reading goes by
+/// parents alone, also behind a fault of a stack. The stack of each line is the same over what was read as over the tree.
+pub(crate) fn read_dirs<T: Tree>(
+    alloc: Global,
+    reader: &mut Reader,
+    tree: &mut T,
+    names: &Layout,
+    lines: &DescLines,
+) -> Result<Reached, LoadFault>
+    requires knows { Knows (T.files tree.old) reader.old }
+    requires names { names.now ≡ layout }
+    ensures order { IfOk result (λ r. IsTold (T.files tree.old) → r.order ≡ reached_by (dir_at (look_in (T.files tree.old))) [] lines.now) }
+    ensures passed { OnOk result (IsTold (T.files tree.old) → passed (look_in (T.files tree.old)) reader.old (steps_of (look_in (T.files tree.old)) (reached_by (dir_at (look_in (T.files tree.old))) [] lines.now)) ≡ Ok reader.new) }
+    ensures dirs { IfOk result (λ r. IsTold (T.files tree.old) → KeepsDirs (look_in (T.files tree.old)) r) }
+    ensures stacks { IfOk result (λ r. IsTold (T.files tree.old) → HaveSameStacks (finite.get r.dirs) (dir_at (look_in (T.files tree.old))) lines.now) }
+    ensures knows { OnOk result (Knows (T.files tree.old) reader.new) }
+    ensures calm { OnOk result (T.faults tree.new ≡ T.faults tree.old) }
+    ensures cause { IfErr result (Cause (T.files tree.old) (T.faults tree.old) (T.faults tree.new) (passed (look_in (T.files tree.old)) reader.old (steps_of (look_in (T.files tree.old)) (reached_by (dir_at (look_in (T.files tree.old))) [] lines.now)))) }
+    ensures files { T.files tree.new ≡ T.files tree.old }
+    ensures around { around (T.entered tree.new) (T.lent tree.new) ≡ around (T.entered tree.old) (T.lent tree.old) }
+    ensures later { T.faults tree.old ≤ T.faults tree.new }
+{
+    let mut reached = Reached {
+        order: Texts::new(alloc),
+        set: BTreeSet::new(alloc),
+        dirs: Dirs::new(alloc),
+    };
+    for line in lines.items() {
+        reached = match read_line(alloc, reader, tree, names, reached, line) {
+            Ok(reached) => reached,
+            Err(fault) => return Err(fault),
+        };
+    }
+    Ok(reached)
+}

@@ -1,0 +1,347 @@
+//! Reads the paths of a tree, and keeps what it found, so that no path is read twice.
+//!
+//! A look-up costs O(log paths) comparisons. What was read is kept until the reader is dropped.
+ghost use Rattle.std.specs.Prelude.{◌≡◌, ◌≤◌, ◌∷◌, [], Ok, Err, Some, length, IfOk, IfErr, OnOk, option_copied, ◌⊎◌};
+ghost use Rattle.std.specs.FinMap as finite;
+ghost use Rattle.gv_base.specs.Outside.{HasAtMost, most_file_bytes};
+ghost use Rattle.gv_load.specs.Causes.{Cause, Knows, Went};
+ghost use Rattle.gv_load.specs.Directories.{bytes_in, bytes_at, text_at};
+ghost use Rattle.gv_load.specs.Entries.{digest_at};
+ghost use Rattle.gv_load.specs.Known.{Seen, nothing};
+ghost use Rattle.gv_load.specs.Look.{IsTold, look_in, around};
+ghost use Rattle.gv_load.specs.Reading.{after_read, after_new, after_list, with_new, with_found, passed, read, need, once};
+
+use crate::LoadFault;
+use crate::faults::{failed, limit, missing};
+use gv_base::{Found, MAX_FILE_BYTES, NoMemory, Text, Texts, Tree, TreeFault, map_law};
+use gv_entry::digest_of;
+use std::alloc::Global;
+use std::collections::BTreeMap;
+use std::marker::Model;
+
+const MAX_PATH_BYTES: u64 = 4096;
+
+const MAX_FILES: u64 = 400_000;
+
+/// What was read of a tree.
+#[derive(Drop)]
+pub(crate) struct Reader {
+    alloc: Global,
+    known: BTreeMap<Vec<u8>, Found>,
+    found: u64,
+}
+
+impl Model for Reader {
+    ghost use Rattle.gv_base.specs.ByteMap.{map_of};
+    ghost use Rattle.gv_load.specs.Known.{Seen, coded_seen};
+
+    ghost Value = { Seen };
+
+    ghost coded = { coded_seen };
+
+    ghost view = { λ r. record { known = map_of r.known.entries; found = r.found } };
+}
+
+impl Reader {
+    /// Nothing was read.
+    pub fn new(alloc: Global) -> Reader
+        ensures { result ≡ nothing }
+    {
+        Reader {
+            alloc,
+            known: BTreeMap::new(alloc),
+            found: 0,
+        }
+    }
+
+    fn get(&self, path: &[u8]) -> Option<&Found>
+        ensures { option_copied result ≡ finite.get self.now.known path.now }
+    {
+        map_law::<Found>();
+        match self.known.get(path) {
+            Some(found) => Some(found),
+            None => None,
+        }
+    }
+
+    // The number of files with what stands at a new path.
+    fn count_with(&self, path: &Text, found: &Found) -> Result<u64, LoadFault>
+        requires { HasAtMost most_file_bytes found.now }
+        ensures ok { IfOk result (λ files. with_new self.now path.now found.now ≡ Ok (with_found self.now path.now found.now files)) }
+        ensures err { IfErr result (λ fault. (fault ≡ LoadFault.NoMemory) ⊎ ((fault ≡ LoadFault.Limit path.now 400000) × (with_new self.now path.now found.now ≡ Err fault))) }
+    {
+        match found {
+            Found::File(_) => {
+                if self.found < MAX_FILES {
+                    Ok(self.found + 1)
+                } else {
+                    Err(limit(self.alloc, path, MAX_FILES))
+                }
+            }
+            Found::Dir => Ok(self.found),
+            Found::Absent => Ok(self.found),
+        }
+    }
+
+    fn put(&mut self, path: &Text, found: Found, files: u64) -> Result<(), NoMemory>
+        ensures { OnOk result (self.new ≡ with_found self.old path.now found files) }
+    {
+        map_law::<Found>();
+        let key = copy_bytes(self.alloc, path.bytes())?;
+        self.known.insert(key, found)?;
+        self.found = files;
+        Ok(())
+    }
+
+    // Reads a path that was not read before.
+    fn learn<T: Tree>(&mut self, tree: &mut T, path: &Text) -> Result<(), LoadFault>
+        requires { Knows (T.files tree.old) self.old }
+        ensures passed { OnOk result (IsTold (T.files tree.old) → after_read (look_in (T.files tree.old)) self.old path.now ≡ Ok self.new) }
+        ensures known { OnOk result (IsTold (T.files tree.old) → finite.get self.new.known path.now ≡ Some ((look_in (T.files tree.old)).found path.now)) }
+        ensures knows { OnOk result (Knows (T.files tree.old) self.new) }
+        ensures cause { IfErr result (Cause (T.files tree.old) (T.faults tree.old) (T.faults tree.new) (after_read (look_in (T.files tree.old)) self.old path.now)) }
+        ensures files { T.files tree.new ≡ T.files tree.old }
+        ensures around { around (T.entered tree.new) (T.lent tree.new) ≡ around (T.entered tree.old) (T.lent tree.old) }
+        ensures later { T.faults tree.old ≤ T.faults tree.new }
+        ensures calm { OnOk result (T.faults tree.new ≡ T.faults tree.old) }
+    {
+        if self.get(path.bytes()).is_some() {
+            return Ok(());
+        }
+        let found = match read_new(self.alloc, tree, path) {
+            Ok(found) => found,
+            Err(fault) => return Err(fault),
+        };
+        let files = match self.count_with(path, &found) {
+            Ok(files) => files,
+            Err(fault) => return Err(fault),
+        };
+        match self.put(path, found, files) {
+            Ok(()) => Ok(()),
+            Err(_) => Err(LoadFault::NoMemory),
+        }
+    }
+
+    /// What stands at a path, which is read at most once.
+    pub fn read<T: Tree>(&mut self, tree: &mut T, path: &Text) -> Result<Found, LoadFault>
+        requires { Knows (T.files tree.old) self.old }
+        ensures found { IfOk result (λ found. IsTold (T.files tree.old) → found ≡ (look_in (T.files tree.old)).found path.now) }
+        ensures went { OnOk result (Went (T.files tree.old) (T.faults tree.old) (T.faults tree.new) (read path.now ∷ []) self.old self.new) }
+        ensures cause { IfErr result (Cause (T.files tree.old) (T.faults tree.old) (T.faults tree.new) (passed (look_in (T.files tree.old)) self.old (read path.now ∷ []))) }
+        ensures files { T.files tree.new ≡ T.files tree.old }
+        ensures around { around (T.entered tree.new) (T.lent tree.new) ≡ around (T.entered tree.old) (T.lent tree.old) }
+        ensures later { T.faults tree.old ≤ T.faults tree.new }
+    {
+        if let Err(fault) = self.learn(tree, path) {
+            return Err(fault);
+        }
+        let alloc = self.alloc;
+        match self.get(path.bytes()) {
+            Some(found) => match copy_found(alloc, found) {
+                Ok(found) => Ok(found),
+                Err(_) => Err(LoadFault::NoMemory),
+            },
+            None => Ok(Found::Absent),
+        }
+    }
+
+    /// The bytes of a path, none where it is no file.
+    pub fn bytes<T: Tree>(&mut self, tree: &mut T, path: &Text) -> Result<Option<Text>, LoadFault>
+        requires { Knows (T.files tree.old) self.old }
+        ensures bytes { IfOk result (λ bytes. IsTold (T.files tree.old) → bytes ≡ bytes_in ((look_in (T.files tree.old)).found path.now)) }
+        ensures went { OnOk result (Went (T.files tree.old) (T.faults tree.old) (T.faults tree.new) (read path.now ∷ []) self.old self.new) }
+        ensures cause { IfErr result (Cause (T.files tree.old) (T.faults tree.old) (T.faults tree.new) (passed (look_in (T.files tree.old)) self.old (read path.now ∷ []))) }
+        ensures files { T.files tree.new ≡ T.files tree.old }
+        ensures around { around (T.entered tree.new) (T.lent tree.new) ≡ around (T.entered tree.old) (T.lent tree.old) }
+        ensures later { T.faults tree.old ≤ T.faults tree.new }
+    {
+        match self.read(tree, path) {
+            Ok(Found::File(text)) => Ok(Some(text)),
+            Ok(Found::Dir) => Ok(None),
+            Ok(Found::Absent) => Ok(None),
+            Err(fault) => Err(fault),
+        }
+    }
+
+    /// The bytes of a path that has to be a file.
+    pub fn need<T: Tree>(&mut self, tree: &mut T, path: &Text) -> Result<Text, LoadFault>
+        requires { Knows (T.files tree.old) self.old }
+        ensures bytes { IfOk result (λ bytes. IsTold (T.files tree.old) → bytes ≡ text_at (look_in (T.files tree.old)) path.now) }
+        ensures went { OnOk result (Went (T.files tree.old) (T.faults tree.old) (T.faults tree.new) (need path.now ∷ []) self.old self.new) }
+        ensures cause { IfErr result (Cause (T.files tree.old) (T.faults tree.old) (T.faults tree.new) (passed (look_in (T.files tree.old)) self.old (need path.now ∷ []))) }
+        ensures files { T.files tree.new ≡ T.files tree.old }
+        ensures around { around (T.entered tree.new) (T.lent tree.new) ≡ around (T.entered tree.old) (T.lent tree.old) }
+        ensures later { T.faults tree.old ≤ T.faults tree.new }
+    {
+        match self.read(tree, path) {
+            Ok(Found::File(text)) => Ok(text),
+            Ok(Found::Dir) => Err(missing(self.alloc, path)),
+            Ok(Found::Absent) => Err(missing(self.alloc, path)),
+            Err(fault) => Err(fault),
+        }
+    }
+
+    // What was read of a path, if it was.
+    fn known_at(&self, path: &Text) -> Result<Option<Found>, NoMemory>
+        ensures { IfOk result (λ found. found ≡ finite.get self.now.known path.now) }
+    {
+        match self.get(path.bytes()) {
+            Some(found) => Ok(Some(copy_found(self.alloc, found)?)),
+            None => Ok(None),
+        }
+    }
+
+    // Reads a path that was not read before, counts it, and keeps nothing.
+    fn count<T: Tree>(&mut self, tree: &mut T, path: &Text) -> Result<Found, LoadFault>
+        ensures found { IfOk result (λ found. IsTold (T.files tree.old) → found ≡ (look_in (T.files tree.old)).found path.now) }
+        ensures known { OnOk result (self.new.known ≡ self.old.known) }
+        ensures passed { IfOk result (λ found. IsTold (T.files tree.old) → after_new (look_in (T.files tree.old)) self.old path.now ≡ Ok (with_found self.old path.now found self.new.found)) }
+        ensures cause { IfErr result (Cause (T.files tree.old) (T.faults tree.old) (T.faults tree.new) (after_new (look_in (T.files tree.old)) self.old path.now)) }
+        ensures files { T.files tree.new ≡ T.files tree.old }
+        ensures around { around (T.entered tree.new) (T.lent tree.new) ≡ around (T.entered tree.old) (T.lent tree.old) }
+        ensures later { T.faults tree.old ≤ T.faults tree.new }
+        ensures calm { OnOk result (T.faults tree.new ≡ T.faults tree.old) }
+    {
+        let found = match read_new(self.alloc, tree, path) {
+            Ok(found) => found,
+            Err(fault) => return Err(fault),
+        };
+        let files = match self.count_with(path, &found) {
+            Ok(files) => files,
+            Err(fault) => return Err(fault),
+        };
+        self.found = files;
+        Ok(found)
+    }
+
+    /// What stands at a path that no later step reads: it is counted, and isn't kept.
+    pub fn read_once<T: Tree>(&mut self, tree: &mut T, path: &Text) -> Result<Found, LoadFault>
+        requires { Knows (T.files tree.old) self.old }
+        ensures found { IfOk result (λ found. IsTold (T.files tree.old) → found ≡ (look_in (T.files tree.old)).found path.now) }
+        ensures went { OnOk result (Went (T.files tree.old) (T.faults tree.old) (T.faults tree.new) (once path.now ∷ []) self.old self.new) }
+        ensures cause { IfErr result (Cause (T.files tree.old) (T.faults tree.old) (T.faults tree.new) (passed (look_in (T.files tree.old)) self.old (once path.now ∷ []))) }
+        ensures files { T.files tree.new ≡ T.files tree.old }
+        ensures around { around (T.entered tree.new) (T.lent tree.new) ≡ around (T.entered tree.old) (T.lent tree.old) }
+        ensures later { T.faults tree.old ≤ T.faults tree.new }
+    {
+        match self.known_at(path) {
+            Ok(Some(found)) => Ok(found),
+            Ok(None) => match self.count(tree, path) {
+                Ok(found) => Ok(found),
+                Err(fault) => Err(fault),
+            },
+            Err(_) => Err(LoadFault::NoMemory),
+        }
+    }
+
+    /// The bytes of such a path, none where it is no file.
+    pub fn bytes_once<T: Tree>(
+        &mut self,
+        tree: &mut T,
+        path: &Text,
+    ) -> Result<Option<Text>, LoadFault>
+        requires { Knows (T.files tree.old) self.old }
+        ensures bytes { IfOk result (λ bytes. IsTold (T.files tree.old) → bytes ≡ bytes_at (look_in (T.files tree.old)) path.now) }
+        ensures went { OnOk result (Went (T.files tree.old) (T.faults tree.old) (T.faults tree.new) (once path.now ∷ []) self.old self.new) }
+        ensures cause { IfErr result (Cause (T.files tree.old) (T.faults tree.old) (T.faults tree.new) (passed (look_in (T.files tree.old)) self.old (once path.now ∷ []))) }
+        ensures files { T.files tree.new ≡ T.files tree.old }
+        ensures around { around (T.entered tree.new) (T.lent tree.new) ≡ around (T.entered tree.old) (T.lent tree.old) }
+        ensures later { T.faults tree.old ≤ T.faults tree.new }
+    {
+        match self.read_once(tree, path) {
+            Ok(Found::File(text)) => Ok(Some(text)),
+            Ok(Found::Dir) => Ok(None),
+            Ok(Found::Absent) => Ok(None),
+            Err(fault) => Err(fault),
+        }
+    }
+
+    /// The digest of such a path, none where it is no file. The bytes are let go.
+    pub fn digest_once<T: Tree>(
+        &mut self,
+        tree: &mut T,
+        path: &Text,
+    ) -> Result<Option<[u8; 16]>, LoadFault>
+        requires { Knows (T.files tree.old) self.old }
+        ensures digest { IfOk result (λ digest. IsTold (T.files tree.old) → digest ≡ digest_at (look_in (T.files tree.old)) path.now) }
+        ensures went { OnOk result (Went (T.files tree.old) (T.faults tree.old) (T.faults tree.new) (once path.now ∷ []) self.old self.new) }
+        ensures cause { IfErr result (Cause (T.files tree.old) (T.faults tree.old) (T.faults tree.new) (passed (look_in (T.files tree.old)) self.old (once path.now ∷ []))) }
+        ensures files { T.files tree.new ≡ T.files tree.old }
+        ensures around { around (T.entered tree.new) (T.lent tree.new) ≡ around (T.entered tree.old) (T.lent tree.old) }
+        ensures later { T.faults tree.old ≤ T.faults tree.new }
+    {
+        match self.read_once(tree, path) {
+            Ok(Found::File(text)) => Ok(Some(digest_of(text.bytes()))),
+            Ok(Found::Dir) => Ok(None),
+            Ok(Found::Absent) => Ok(None),
+            Err(fault) => Err(fault),
+        }
+    }
+}
+
+fn copy_found(alloc: Global, found: &Found) -> Result<Found, NoMemory>
+    ensures { IfOk result (λ copied. copied ≡ found.now) }
+{
+    match found {
+        Found::File(text) => Ok(Found::File(text.copy(alloc)?)),
+        Found::Dir => Ok(Found::Dir),
+        Found::Absent => Ok(Found::Absent),
+    }
+}
+
+fn copy_bytes(alloc: Global, bytes: &[u8]) -> Result<Vec<u8>, NoMemory>
+    ensures { IfOk result (λ copied. copied.items ≡ bytes.now) }
+{
+    Ok(Vec::from_slice(alloc, bytes)?)
+}
+
+#[tactic(auto, using(crate::proofs::Readings::told_found, crate::proofs::Readings::large_told))]
+fn read_new<T: Tree>(alloc: Global, tree: &mut T, path: &Text) -> Result<Found, LoadFault>
+    ensures found { IfOk result (λ found. IsTold (T.files tree.old) → found ≡ (look_in (T.files tree.old)).found path.now) }
+    ensures short { OnOk result (length path.now ≤ 4096) }
+    ensures small { IfOk result (HasAtMost most_file_bytes) }
+    ensures cause { (seen : Seen) → IfErr result (Cause (T.files tree.old) (T.faults tree.old) (T.faults tree.new) (after_new (look_in (T.files tree.old)) seen path.now)) }
+    ensures files { T.files tree.new ≡ T.files tree.old }
+    ensures around { around (T.entered tree.new) (T.lent tree.new) ≡ around (T.entered tree.old) (T.lent tree.old) }
+    ensures later { T.faults tree.old ≤ T.faults tree.new }
+    ensures calm { OnOk result (T.faults tree.new ≡ T.faults tree.old) }
+{
+    if path.bytes().len() as u64 > MAX_PATH_BYTES {
+        return Err(limit(alloc, path, MAX_PATH_BYTES));
+    }
+    match tree.read(alloc, path) {
+        Ok(found) => Ok(found),
+        Err(TreeFault::Failed) => Err(failed(alloc, path)),
+        Err(TreeFault::TooLarge) => Err(limit(alloc, path, MAX_FILE_BYTES)),
+        Err(TreeFault::NoMemory) => Err(LoadFault::NoMemory),
+    }
+}
+
+/// The names below a path, in byte order.
+#[tactic(auto, using(crate::proofs::Readings::told_names))]
+pub(crate) fn list_names<T: Tree>(
+    alloc: Global,
+    tree: &mut T,
+    path: &Text,
+) -> Result<Texts, LoadFault>
+    ensures names { IfOk result (λ names. IsTold (T.files tree.old) → names ≡ (look_in (T.files tree.old)).names path.now) }
+    ensures passed { (seen : Seen) → OnOk result (after_list seen path.now ≡ Ok seen) }
+    ensures cause { (seen : Seen) → IfErr result (Cause (T.files tree.old) (T.faults tree.old) (T.faults tree.new) (after_list seen path.now)) }
+    ensures files { T.files tree.new ≡ T.files tree.old }
+    ensures around { around (T.entered tree.new) (T.lent tree.new) ≡ around (T.entered tree.old) (T.lent tree.old) }
+    ensures later { T.faults tree.old ≤ T.faults tree.new }
+    ensures calm { OnOk result (T.faults tree.new ≡ T.faults tree.old) }
+{
+    if path.bytes().len() as u64 > MAX_PATH_BYTES {
+        return Err(limit(alloc, path, MAX_PATH_BYTES));
+    }
+    match tree.list(alloc, path) {
+        Ok(parts) => match parts.in_order(alloc) {
+            Ok(names) => Ok(names),
+            Err(_) => Err(LoadFault::NoMemory),
+        },
+        Err(TreeFault::Failed) => Err(failed(alloc, path)),
+        Err(TreeFault::TooLarge) => unreachable!(),
+        Err(TreeFault::NoMemory) => Err(LoadFault::NoMemory),
+    }
+}

@@ -1,0 +1,186 @@
+//! The stacks of all lines, folded line by line. A line costs what folding its stack costs.
+ghost use Rattle.std.specs.Prelude.{◌≡◌, ◌++◌, ◌∷◌, [], Some, None, false, filter_map, option_to_list, IfOk, IfErr, OnOk};
+ghost use Rattle.std.specs.FinMap as finite;
+ghost use Rattle.gv_load.specs.Paths.{desc_path, stack_place};
+ghost use Rattle.gv_load.specs.Stacks.{detail_of, wrong_at, error_of, is_no_memory, error_at, profile_at, limit_of, limit_at, first_limit, LimitIs};
+
+use crate::LoadFault;
+use crate::paths::desc_path;
+use gv_base::{NoMemory, Text};
+use gv_facts::{Profile, Profiles};
+use gv_profile::{
+    DescLine, DescLines, Dirs, NamedFiles, PlaceNote, PlaceNotes, ProfileFault, fold, within,
+};
+use std::alloc::Global;
+
+/// The profiles of the lines whose stack has no fault, and the places of the faults of the others.
+#[derive(Drop)]
+pub(crate) struct Folds {
+    pub profiles: Profiles,
+    pub errors: PlaceNotes,
+}
+
+// What is wrong with a stack.
+#[derive(Clone, Copy)]
+pub(crate) enum Wrong {
+    LeadsBack,
+    NoParent,
+    NoProfile,
+    NoEapi,
+}
+
+#[tactic(auto, unfolding(crate::specs::Stacks::detail_of))]
+fn detail_of(alloc: Global, wrong: Wrong) -> Result<Text, NoMemory>
+    ensures { IfOk result (λ text. text ≡ detail_of wrong) }
+{
+    match wrong {
+        Wrong::LeadsBack => Text::of(alloc, b"cycle"),
+        Wrong::NoParent => Text::of(alloc, b"missing parent"),
+        Wrong::NoProfile => Text::of(alloc, b"missing profile"),
+        Wrong::NoEapi => Text::of(alloc, b"bad eapi"),
+    }
+}
+
+#[tactic(auto, unfolding(crate::specs::Paths::stack_place))]
+fn stack_place(alloc: Global, word: &Text) -> Result<Text, NoMemory>
+    ensures { IfOk result (λ place. place ≡ stack_place word.now) }
+{
+    let profiles = Text::of(alloc, b"profiles")?;
+    within(alloc, &profiles, word.bytes())
+}
+
+fn too_many(alloc: Global, line: &DescLine) -> LoadFault
+    ensures { LimitIs (Some (stack_place line.now.path)) result }
+{
+    match stack_place(alloc, &line.path) {
+        Ok(place) => LoadFault::Limit {
+            place,
+            number: 4096,
+        },
+        Err(_) => LoadFault::NoMemory,
+    }
+}
+
+fn with_profile(folds: Folds, profile: Profile) -> Result<Folds, NoMemory>
+    ensures profiles { IfOk result (λ f. f.profiles ≡ folds.profiles ++ profile ∷ []) }
+    ensures errors { IfOk result (λ f. f.errors ≡ folds.errors) }
+{
+    let Folds {
+        mut profiles,
+        errors,
+    } = folds;
+    profiles.add(profile)?;
+    Ok(Folds { profiles, errors })
+}
+
+fn with_error(
+    alloc: Global,
+    folds: Folds,
+    path: Text,
+    line: u32,
+    wrong: Wrong,
+) -> Result<Folds, NoMemory>
+    ensures profiles { IfOk result (λ f. f.profiles ≡ folds.profiles) }
+    ensures errors { IfOk result (λ f. f.errors ≡ folds.errors ++ wrong_at path line wrong ∷ []) }
+{
+    let Folds {
+        profiles,
+        mut errors,
+    } = folds;
+    let detail = detail_of(alloc, wrong)?;
+    errors.add(PlaceNote { path, line, detail })?;
+    Ok(Folds { profiles, errors })
+}
+
+fn without_profile(alloc: Global, folds: Folds, line: u32) -> Result<Folds, NoMemory>
+    ensures profiles { IfOk result (λ f. f.profiles ≡ folds.profiles) }
+    ensures errors { IfOk result (λ f. f.errors ≡ folds.errors ++ wrong_at desc_path line Wrong.NoProfile ∷ []) }
+{
+    let path = desc_path(alloc)?;
+    with_error(alloc, folds, path, line, Wrong::NoProfile)
+}
+
+// Notes the fault of a line's stack.
+fn with_fault(
+    alloc: Global,
+    folds: Folds,
+    line: &DescLine,
+    fault: ProfileFault,
+) -> Result<Folds, LoadFault>
+    ensures profiles { IfOk result (λ f. f.profiles ≡ folds.profiles) }
+    ensures errors { IfOk result (λ f. f.errors ≡ folds.errors ++ option_to_list (error_of fault)) }
+    ensures passed { OnOk result (limit_of line.now (Some fault) ≡ None) }
+    ensures told { OnOk result (is_no_memory fault ≡ false) }
+    ensures cause { IfErr result (LimitIs (limit_of line.now (Some fault))) }
+{
+    let noted = match fault {
+        ProfileFault::Cycle { path, line } => with_error(
+            alloc,
+            folds,
+            path,
+            line,
+            Wrong::LeadsBack,
+        ),
+        ProfileFault::MissingParent { path, line } => {
+            with_error(alloc, folds, path, line, Wrong::NoParent)
+        }
+        ProfileFault::MissingProfile { line } => without_profile(alloc, folds, line),
+        ProfileFault::BadEapi { path } => with_error(alloc, folds, path, 1, Wrong::NoEapi),
+        ProfileFault::TooMany => return Err(too_many(alloc, line)),
+        ProfileFault::NoMemory => Err(NoMemory),
+    };
+    match noted {
+        Ok(folds) => Ok(folds),
+        Err(_) => Err(LoadFault::NoMemory),
+    }
+}
+
+fn fold_line(
+    alloc: Global,
+    dirs: &Dirs,
+    first: &NamedFiles,
+    line: &DescLine,
+    folds: Folds,
+) -> Result<Folds, LoadFault>
+    ensures profiles { IfOk result (λ f. f.profiles ≡ folds.profiles ++ option_to_list (profile_at (finite.get dirs.now) first.now line.now)) }
+    ensures errors { IfOk result (λ f. f.errors ≡ folds.errors ++ option_to_list (error_at (finite.get dirs.now) line.now)) }
+    ensures passed { OnOk result (limit_at (finite.get dirs.now) line.now ≡ None) }
+    ensures cause { IfErr result (LimitIs (limit_at (finite.get dirs.now) line.now)) }
+{
+    match fold(alloc, dirs, line, first) {
+        Ok(profile) => match with_profile(folds, profile) {
+            Ok(folds) => Ok(folds),
+            Err(_) => Err(LoadFault::NoMemory),
+        },
+        Err(fault) => match with_fault(alloc, folds, line, fault) {
+            Ok(folds) => Ok(folds),
+            Err(fault) => Err(fault),
+        },
+    }
+}
+
+/// The profiles of the lines whose stack has no fault, and the faults of the others, in the order of the lines. The first
+/// line whose stack has more than 4,096 visits is a limit at `profiles/` and its path.
+pub(crate) fn fold_lines(
+    alloc: Global,
+    dirs: &Dirs,
+    first: &NamedFiles,
+    lines: &DescLines,
+) -> Result<Folds, LoadFault>
+    ensures profiles { IfOk result (λ f. f.profiles ≡ filter_map (profile_at (finite.get dirs.now) first.now) lines.now) }
+    ensures errors { IfOk result (λ f. f.errors ≡ filter_map (error_at (finite.get dirs.now)) lines.now) }
+    ensures passed { OnOk result (first_limit (finite.get dirs.now) lines.now ≡ None) }
+    ensures cause { IfErr result (LimitIs (first_limit (finite.get dirs.now) lines.now)) }
+{
+    let mut folds = Folds {
+        profiles: Profiles::new(alloc),
+        errors: PlaceNotes::new(alloc),
+    };
+    for line in lines.items() {
+        folds = match fold_line(alloc, dirs, first, line, folds) {
+            Ok(folds) => folds,
+            Err(fault) => return Err(fault),
+        };
+    }
+    Ok(folds)
+}
