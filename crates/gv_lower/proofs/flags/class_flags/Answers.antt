@@ -1,0 +1,13 @@
+use Rattle.std.proofs.Common.{◌++◌}
+use Rattle.gv_expr.specs.Dep.{deps}
+use Rattle.gv_expr.specs.Mentioned.{dep_mentions, req_mentions}
+use Rattle.gv_expr.specs.Req.{reqs}
+use Rattle.gv_facts.specs.States.{state}
+use Rattle.gv_entry.specs.Allowed.{is_free}
+use Rattle.gv_lower.proofs.Mentions.{filtered_ascends}
+use Rattle.gv_lower.proofs.flags.class_flags.Goals as goal
+
+pub returns-clause-ascend : goal.returns-clause-ascend
+returns-clause-ascend c =
+    filtered_ascends c.in_order_law.ensures (λ flag. is_free (state c.args.pkg.now c.args.profile.now c.args.level flag)) (req_mentions (reqs c.args.required.now) ++ dep_mentions (deps c.args.class.now)) c.in_ok-mentioned.mentioned c.in_ok-flags.flags
+    c.in_ok-mentioned.ensures c.in_ok-flags.ensures

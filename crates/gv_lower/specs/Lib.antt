@@ -1,0 +1,14 @@
+pub mod Plans
+pub mod Groups
+pub mod TreeGates
+pub mod AtomGates
+pub mod QueryGates
+pub mod Laws
+pub mod Drawn
+pub mod Asks
+pub mod Chained
+pub mod Around
+pub mod Inputs
+pub mod Lowered
+pub mod Weights
+pub mod ParentFlags

@@ -1,0 +1,45 @@
+//! The queries of a package as gates: which assignments of its USE flags are allowed, and which are failing for a class.
+//!
+//! Stands on `gv_base`, `gv_version`, `gv_logic`, `gv_atom`, `gv_expr`, `gv_facts`, `gv_entry`, `gv_visible` and
+//! `gv_usestate`. Layers above use `lower_allowed` and `lower_failing` by the gates, flags and items that the definitions of
+//! `specs/` say, and of these `lowering_law`, `value_law` and `size_law`.
+//!
+//! - `lower`, `lowering`, `query`: the calls, their steps, and what they answer.
+//! - `flags`, `weigh`: a query's flags and its weight.
+//! - `required`, `class`, `atoms`, `asks`: expressions, atoms and USE items, drawn as gates. `parent` has the literals of the
+//!   parent's flags, `chains` the items of an atom by their flags, `groups` what a group makes of its members.
+//! - `sketch`, `finish`: gates in the making, and made.
+//! - `laws`: laws of the definitions.
+//! - `caller`: the calls as the layers above make them.
+//!
+//! A call is linear in the query's weight, besides the look-ups: for each flag a search in halves among the query's flags
+//! and, where it is none of them, its state; for each package of an atom one step of the candidates and the states of the
+//! flags that the atom's items name. It keeps nothing from query to query.
+#![tactic(auto)]
+
+mod asks;
+mod atoms;
+mod caller;
+mod chains;
+mod class;
+mod finish;
+mod flags;
+mod groups;
+mod laws;
+mod lower;
+mod lowering;
+#[cfg(test)]
+mod made;
+mod parent;
+mod query;
+#[cfg(test)]
+mod random_tests;
+mod required;
+mod sketch;
+#[cfg(test)]
+mod tests;
+mod weigh;
+
+pub use laws::{lowering_law, size_law, value_law};
+pub use lower::{lower_allowed, lower_failing};
+pub use query::{LowerFault, Query};

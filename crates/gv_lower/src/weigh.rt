@@ -1,0 +1,206 @@
+//! The weight of a query: its tokens, and for each visible package that an atom matches one and the atom's items.
+//!
+//! O(its trees) steps, down at most 64 groups, and a look-up for each atom. Only where the packages of the atoms' names
+//! are too many are they looked at, each by a look-up and a call of the test.
+ghost use Rattle.std.specs.Prelude.{◌≡◌, ℕ, ◌+◌, ◌*◌, [], ◌∷◌, length, filter, sum_by, IfOk};
+ghost use Rattle.gv_expr.specs.Dep as dep;
+ghost use Rattle.gv_expr.specs.Dep.{deps};
+ghost use Rattle.gv_expr.specs.DepView.{dep_of};
+ghost use Rattle.gv_expr.specs.Req as req;
+ghost use Rattle.gv_expr.specs.Req.{reqs};
+ghost use Rattle.gv_expr.specs.ReqGrammar.{req_tokens};
+ghost use Rattle.gv_expr.specs.ReqView.{req_of};
+ghost use Rattle.gv_entry.specs.Weight.{weight};
+ghost use Rattle.gv_facts.specs.Places.{is_pkg_of};
+ghost use Rattle.gv_facts.specs.declared.pkg.Pkg.{Pkg};
+ghost use Rattle.gv_lower.specs.Around.{parent_of};
+ghost use Rattle.gv_lower.specs.Lowered.{LightWeight};
+ghost use Rattle.gv_lower.specs.Weights.{capped, class_weight, packages_weight};
+ghost use Rattle.gv_visible.specs.Shown.{shows};
+ghost use Rattle.gv_visible.specs.Tells.{AnswersVisible};
+ghost use Rattle.gv_visible.specs.Told.{level_of, pkgs_of, profile_of, test_of};
+
+use crate::atoms::next_number;
+use crate::query::LowerFault;
+use gv_atom::{Atom, Block, UseItem};
+use gv_base::NoMemory;
+use gv_expr::{DepExpr, DepTree, UseExpr, UseTree};
+use gv_facts::{Pkg, Pkgs};
+use gv_visible::Candidates;
+
+/// A query weighs at most so much.
+const MOST_WEIGHT: u64 = 2_000_000;
+
+// Which packages of an atom are counted.
+#[derive(Clone, Copy)]
+enum Counted {
+    // those of its name
+    Named,
+    // those that it matches and that are visible
+    Shown,
+}
+
+// A sum that ends at the last number.
+fn plus(a: u64, b: u64) -> u64
+    ensures { (x y : ℕ) → a ≡ capped x → b ≡ capped y → result ≡ capped (x + y) }
+{
+    a.saturating_add(b)
+}
+
+// A product that ends there.
+fn times(a: u64, b: u64) -> u64
+    ensures { (x y : ℕ) → a ≡ capped x → b ≡ capped y → result ≡ capped (x * y) }
+{
+    a.saturating_mul(b)
+}
+
+#[cycle(tokens)]
+fn required_tokens(items: &UseExpr) -> u64
+    ensures { result ≡ capped (length (req_tokens (reqs items.now))) }
+{
+    let mut tokens = 0;
+    for tree in &items.items {
+        tokens = plus(tokens, tree_tokens(tree));
+    }
+    tokens
+}
+
+#[cycle(tokens)]
+fn tree_tokens(tree: &UseTree) -> u64
+    ensures { result ≡ capped (length (req_tokens (req.more (req_of tree.now) req.end))) }
+{
+    match tree {
+        UseTree::Leaf { .. } => 1,
+        UseTree::All { items } => plus(2, required_tokens(items)),
+        UseTree::Any { items } => plus(3, required_tokens(items)),
+        UseTree::One { items } => plus(3, required_tokens(items)),
+        UseTree::Most { items } => plus(3, required_tokens(items)),
+        UseTree::If { items, .. } => plus(3, required_tokens(items)),
+    }
+}
+
+fn count(items: &[UseItem]) -> u64
+    ensures { result ≡ capped (length items.now) }
+{
+    items.len() as u64
+}
+
+// One and the atom's items, for each package of its name. No package is looked at.
+fn named_weight(atom: &Atom, pkgs: &Pkgs) -> u64
+    ensures { result ≡ capped (sum_by (λ (p : Pkg). 1 + length atom.now.items) (filter (is_pkg_of atom.now.category atom.now.name) pkgs.now)) }
+{
+    let each = plus(1, count(atom.items.items()));
+    let places = pkgs.places_of(atom.category.bytes(), atom.name.bytes());
+    times(each, places.len() as u64)
+}
+
+// One and the atom's items, for each visible package that it matches.
+fn shown_weight<F: Fn(&Pkg) -> bool>(
+    atom: &Atom,
+    candidates: &Candidates<'_, F>,
+) -> Result<u64, NoMemory>
+    requires { AnswersVisible (F.pre (test_of candidates.now)) (F.post (test_of candidates.now)) (profile_of candidates.now) (level_of candidates.now) }
+    ensures { IfOk result (λ weight. weight ≡ capped (sum_by (λ (p : Pkg). 1 + length atom.now.items) (filter (shows (profile_of candidates.now) (level_of candidates.now) atom.now) (pkgs_of candidates.now)))) }
+{
+    let each = plus(1, count(atom.items.items()));
+    let mut weight = 0;
+    let mut from = 0;
+    while let Some(n) = candidates.next(atom, from) {
+        weight = plus(weight, each);
+        from = next_number(n)?;
+    }
+    Ok(weight)
+}
+
+fn packages_weight<F: Fn(&Pkg) -> bool>(
+    counted: Counted,
+    atom: &Atom,
+    pkg: &Pkg,
+    candidates: &Candidates<'_, F>,
+) -> Result<u64, NoMemory>
+    requires { AnswersVisible (F.pre (test_of candidates.now)) (F.post (test_of candidates.now)) (profile_of candidates.now) (level_of candidates.now) }
+    ensures { IfOk result (λ weight. weight ≡ capped (packages_weight counted (parent_of candidates.now pkg.now) atom.now)) }
+{
+    match counted {
+        Counted::Named => Ok(named_weight(atom, candidates.pkgs())),
+        Counted::Shown => shown_weight(atom, candidates),
+    }
+}
+
+#[cycle(weight)]
+fn tree_weight<F: Fn(&Pkg) -> bool>(
+    counted: Counted,
+    tree: &DepTree,
+    pkg: &Pkg,
+    candidates: &Candidates<'_, F>,
+) -> Result<u64, NoMemory>
+    requires { AnswersVisible (F.pre (test_of candidates.now)) (F.post (test_of candidates.now)) (profile_of candidates.now) (level_of candidates.now) }
+    ensures { IfOk result (λ weight. weight ≡ capped (class_weight counted (parent_of candidates.now pkg.now) (dep.more (dep_of tree.now) dep.end))) }
+{
+    match tree {
+        DepTree::Leaf { atom } => match atom.block {
+            Block::Weak | Block::Strong => Ok(1),
+            Block::No => Ok(plus(1, packages_weight(counted, atom, pkg, candidates)?)),
+        },
+        DepTree::All { items } => Ok(plus(2, class_weight(counted, items, pkg, candidates)?)),
+        DepTree::Any { items } => Ok(plus(3, class_weight(counted, items, pkg, candidates)?)),
+        DepTree::If { items, .. } => Ok(plus(3, class_weight(counted, items, pkg, candidates)?)),
+    }
+}
+
+#[cycle(weight)]
+fn class_weight<F: Fn(&Pkg) -> bool>(
+    counted: Counted,
+    items: &DepExpr,
+    pkg: &Pkg,
+    candidates: &Candidates<'_, F>,
+) -> Result<u64, NoMemory>
+    requires { AnswersVisible (F.pre (test_of candidates.now)) (F.post (test_of candidates.now)) (profile_of candidates.now) (level_of candidates.now) }
+    ensures { IfOk result (λ weight. weight ≡ capped (class_weight counted (parent_of candidates.now pkg.now) (deps items.now))) }
+{
+    let mut weight = 0;
+    for tree in &items.items {
+        weight = plus(weight, tree_weight(counted, tree, pkg, candidates)?);
+    }
+    Ok(weight)
+}
+
+// Whether what weighs so much is light enough.
+fn light(count: u64) -> Result<(), LowerFault>
+    ensures { (weight : ℕ) → count ≡ capped weight → LightWeight weight result }
+{
+    if count > MOST_WEIGHT {
+        Err(LowerFault::Weight { count })
+    } else {
+        Ok(())
+    }
+}
+
+// Whether the query of REQUIRED_USE is light enough.
+pub(crate) fn light_required(required: &UseExpr) -> Result<(), LowerFault>
+    ensures { LightWeight (length (req_tokens (reqs required.now))) result }
+{
+    light(required_tokens(required))
+}
+
+// Whether the query of a class is. All packages of a name are counted first, and those that are shown only where these are
+// too many.
+pub(crate) fn light_class<F: Fn(&Pkg) -> bool>(
+    required: &UseExpr,
+    class: &DepExpr,
+    pkg: &Pkg,
+    candidates: &Candidates<'_, F>,
+) -> Result<(), LowerFault>
+    requires { AnswersVisible (F.pre (test_of candidates.now)) (F.post (test_of candidates.now)) (profile_of candidates.now) (level_of candidates.now) }
+    ensures { LightWeight (weight (parent_of candidates.now pkg.now) required.now class.now) result }
+{
+    let tokens = required_tokens(required);
+    let named = class_weight(Counted::Named, class, pkg, candidates)?;
+    match light(plus(tokens, named)) {
+        Ok(()) => Ok(()),
+        Err(_) => {
+            let shown = class_weight(Counted::Shown, class, pkg, candidates)?;
+            light(plus(tokens, shown))
+        }
+    }
+}
