@@ -52,7 +52,7 @@ struct Tally {
     all: u64,
 }
 
-fn tally(items: &[Tree]) -> Tally {
+fn tallied(items: &[Tree]) -> Tally {
     let mut tally = Tally {
         any: 0,
         some: 0,
@@ -94,7 +94,7 @@ fn group<R: Abort>(rt: &R, alloc: Global, open: &str, items: &[Tree], empty: boo
     Tree {
         text: joined(rt, alloc, open, items, " )"),
         enabled: u64::MAX,
-        holds: group_holds(open, tally(items), empty),
+        holds: group_holds(open, tallied(items), empty),
     }
 }
 
@@ -106,7 +106,7 @@ fn conditional<R: Abort>(rt: &R, alloc: Global, n: usize, items: &[Tree]) -> Tre
     Tree {
         text: joined(rt, alloc, open.as_str(), items, " )"),
         enabled: if n >= 6 { !ON[flag] } else { ON[flag] },
-        holds: tally(items).all,
+        holds: tallied(items).all,
     }
 }
 
@@ -128,7 +128,7 @@ fn grouped<R: Abort>(
             items.push(item).expect(rt, "memory");
         }
     }
-    let kind = dice.throw(groups + 3) as usize;
+    let kind = dice.throw(groups.saturating_add(3)) as usize;
     let tree = if kind < 4 && kind < groups as usize {
         group(rt, alloc, GROUPS[kind], &items, empty)
     } else {
@@ -170,16 +170,16 @@ x/o[fN?] always
 x/o[!fN?] on
 x/o[-fN] never
 x/a[fN?] off
-x/a[fN?(+)] always
-x/a[fN?(-)] off
+x/a[fN(+)?] always
+x/a[fN(-)?] off
 x/a[!fN?] on
-x/a[!fN?(+)] on
-x/a[!fN?(-)] always
+x/a[!fN(+)?] on
+x/a[!fN(-)?] always
 x/a[fN=] never
-x/a[fN=(+)] on
-x/a[fN=(-)] off
-x/a[!fN=(+)] off
-x/a[!fN=(-)] on";
+x/a[fN(+)=] on
+x/a[fN(-)=] off
+x/a[!fN(+)=] off
+x/a[!fN(-)=] on";
 
 fn atom_text<R: Abort>(rt: &R, alloc: Global, pattern: &str, flag: usize) -> Text {
     let digit = format!(in alloc; "{flag}").expect(rt, "memory");
@@ -316,7 +316,7 @@ fn compare<R: Abort>(
     class: &[Tree],
     seen: &mut Seen,
 ) {
-    let failing = tally(required).all & !tally(class).all;
+    let failing = tallied(required).all & !tallied(class).all;
     for assignment in 0..64 {
         let bits = bits_of(rt, alloc, query, assignment);
         let want = is_on(failing, assignment);
@@ -331,7 +331,7 @@ fn compare<R: Abort>(
 }
 
 fn compare_required<R: Abort>(rt: &R, alloc: Global, query: &Query, required: &[Tree]) {
-    let holds = tally(required).all;
+    let holds = tallied(required).all;
     for assignment in 0..64 {
         let bits = bits_of(rt, alloc, query, assignment);
         assert!(rt; value_at(rt, alloc, query, &bits) == is_on(holds, assignment));

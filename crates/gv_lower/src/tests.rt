@@ -156,8 +156,9 @@ fn more_than_4096_flags_are_refused(rt: HostRuntime) {
     assert_eq!(&rt; flags_refused(&rt, rt.alloc(), 4097), 4097);
 }
 
-// The weight that a query is refused for of so many atoms x/y, where there are so many such packages.
-fn weight_refused<R: Abort>(rt: &R, alloc: Global, atoms: u32, packages: u32) -> u64 {
+// The weight that a query is refused for of so many of these atoms, where there are so many packages x/y-1; 0 where it
+// isn't refused.
+fn weight_refused<R: Abort>(rt: &R, alloc: Global, atom: &[u8], atoms: u32, packages: u32) -> u64 {
     let mut pkgs = pkgs(rt, alloc, Eapi::Eight, "", "-");
     for _ in 0..packages {
         let pkg = pkg(rt, alloc, "x", "y", Eapi::Eight, "");
@@ -165,18 +166,26 @@ fn weight_refused<R: Abort>(rt: &R, alloc: Global, atoms: u32, packages: u32) ->
     }
     let mut words = text(rt, alloc, "");
     for _ in 0..atoms {
-        words.append(b"x/y ").expect(rt, "memory");
+        words.append(atom).expect(rt, "memory");
     }
     let body = body(rt, alloc, b"", words.bytes());
     let profile = profile(rt, alloc, "x/y", "");
     match failing(rt, alloc, &pkgs, &profile, &body) {
         Err(LowerFault::Weight { count }) => count,
-        _ => 0,
+        Err(_) => 1,
+        Ok(_) => 0,
     }
 }
 
 #[test]
 fn more_weight_than_two_million_is_refused(rt: HostRuntime) {
-    assert_eq!(&rt; weight_refused(&rt, rt.alloc(), 2001, 1000), 2_003_001);
-    assert_eq!(&rt; weight_refused(&rt, rt.alloc(), 200, 100), 0);
+    let alloc = rt.alloc();
+    assert_eq!(&rt; weight_refused(&rt, alloc, b"x/y ", 2001, 1000), 2_003_001);
+    assert_eq!(&rt;
+        weight_refused(&rt, alloc, b"x/y[a,b] ", 700, 1000),
+        2_100_700
+    );
+    assert_eq!(&rt; weight_refused(&rt, alloc, b"x/y ", 200, 100), 0);
+    // packages of the name that aren't asked for weigh nothing
+    assert_eq!(&rt; weight_refused(&rt, alloc, b"=x/y-2 ", 2001, 1000), 0);
 }
