@@ -23,7 +23,7 @@ const MAX_PATH_BYTES: u64 = 4096;
 
 const MAX_FILES: u64 = 400_000;
 
-/// What was read of a tree.
+/// What was read of a tree. Nothing is said of it after an error: a load ends at its first one, and lets its reader go.
 #[derive(Drop)]
 pub(crate) struct Reader {
     alloc: Global,
