@@ -205,7 +205,7 @@ fn indexed(alloc: Global, pkgs: &Pkgs) -> usize {
 }
 
 fn part<'a, R: Abort>(rt: &R, input: &'a str, number: usize) -> &'a str {
-    input.split('|').nth(number).expect(rt, "a part")
+    input.split('@').nth(number).expect(rt, "a part")
 }
 
 fn main(rt: HostRuntime) {
@@ -278,8 +278,9 @@ def made(draw, rounds):
     rules = []
     for _ in range(2000):
         category, name = draw.choice(names)
-        rules.append(f"{draw.choice(['mask', 'force'])} {category}/{name} flag{draw.randrange(10)}")
-    return "|".join(["\n".join(pkgs), "\n".join(masks), "\n".join(rules), "r" * rounds])
+        flag = f"flag{draw.randrange(10)}" if draw.random() < 0.1 else f"other{draw.randrange(1000)}"
+        rules.append(f"{draw.choice(['mask', 'force'])} {category}/{name} {flag}")
+    return "@".join(["\n".join(pkgs), "\n".join(masks), "\n".join(rules), "r" * rounds])
 
 
 def allocations(program, folder, rounds):
