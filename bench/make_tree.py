@@ -3,9 +3,10 @@
 
     make_tree.py FOLDER ENTRIES SEED
 
-FOLDER must not be there. It gets one profile, a hundred categories and ENTRIES cache entries with one to four
-dependencies each, some behind one of three flags. Most packages are stable, so that a few reports come of it.
+FOLDER must not be there. It gets one profile, a hundred categories and ENTRIES cache entries, each with its ebuild and one
+to four dependencies, some behind one of three flags. Most packages are stable, so that a few reports come of it.
 """
+import hashlib
 import os
 import random
 import sys
@@ -25,10 +26,14 @@ def name(number):
     return f"cat{number % CATEGORIES:02}/pkg{number}"
 
 
-def entry(draw, entries):
+def ebuild(number):
+    return f"# package {number}\n"
+
+
+def entry(draw, entries, number):
     keywords = "~amd64" if draw.randrange(50) == 0 else "amd64"
     items = " ".join(dependency(draw, entries) for _ in range(draw.randrange(1, 5)))
-    return f"EAPI=8\nIUSE={' '.join(FLAGS)}\nKEYWORDS={keywords}\nRDEPEND={items}\nSLOT=0\n"
+    return f"EAPI=8\nIUSE={' '.join(FLAGS)}\nKEYWORDS={keywords}\nRDEPEND={items}\nSLOT=0\n_md5_={hashlib.md5(ebuild(number).encode()).hexdigest()}\n"
 
 
 def put(folder, path, text):
@@ -46,7 +51,8 @@ def main(folder, entries, seed):
     put(folder, "profiles/base/use.mask", "test\n")
     draw = random.Random(seed)
     for number in range(entries):
-        put(folder, f"metadata/md5-cache/{name(number)}-1", entry(draw, entries))
+        put(folder, f"metadata/md5-cache/{name(number)}-1", entry(draw, entries, number))
+        put(folder, f"{name(number)}/pkg{number}-1.ebuild", ebuild(number))
 
 
 if __name__ == "__main__":

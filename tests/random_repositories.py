@@ -3,279 +3,172 @@
 
     random_repositories.py BINARY FIRST LAST
 
-For each number from FIRST up to LAST a small repository is drawn from it, judged here by trying everything, written to a
-folder and scanned by BINARY. The plain program follows docs/rules.md and shares nothing with the proved one. Prints the
-first repository on which the two differ, and last how many are alike. Exit status 1 where one differed.
+For each number from FIRST up to LAST a small repository is drawn from it, judged by tests/plain.py, written to a folder and
+scanned by BINARY. Prints the first repository on which the two differ, and last how many are alike. Exit status 1 where one
+differed.
 """
-import functools
-import itertools
+import hashlib
 import os
 import random
-import re
 import subprocess
 import sys
 import tempfile
 
-SUFFIXES = ["alpha", "beta", "pre", "rc", "p"]
+sys.dont_write_bytecode = True
+import plain  # noqa: E402
+
 VERSIONS = ["1", "1.0", "1.00", "1.01", "1.010", "1.1", "1.10", "1.9", "1a", "1_rc", "1_p", "1_p0", "1-r0", "1-r1", "2",
             "1.2_alpha3-r2", "01"]
-FLAGS = list("abcde")
+FLAGS = list("abcde") + ["k_a", "k_b", "v"]
 PACKAGES = ["x/y", "x/z", "app/p", "app/q"]
-CLASSES = ["DEPEND", "BDEPEND", "RDEPEND", "PDEPEND", "IDEPEND"]
-PROFILES = [("amd64", "base", "stable"), ("amd64", "other", "dev"), ("x86", "third", "exp")]
-KEYWORD_OF_STATUS = {"stable": "NonsolvableDepsInStable", "dev": "NonsolvableDepsInDev", "exp": "NonsolvableDepsInExp"}
+FOLDERS = ["base", "other", "third", "top", "top/inner", "far/away"]
+ECLASSES = ["one", "two"]
 
 
-# Versions
+# Expressions
 
-def parts(version):
-    found = re.fullmatch(r"(\d+)((?:\.\d+)*)([a-z]?)((?:_(?:alpha|beta|pre|rc|p)\d*)*)(?:-r(\d+))?", version)
-    numbers = [found[1]] + found[2].split(".")[1:]
-    suffixes = re.findall(r"_(alpha|beta|pre|rc|p)(\d*)", found[4])
-    return numbers, found[3], suffixes, found[5]
-
-
-def sign(a, b):
-    return (a > b) - (a < b)
-
-
-def compare_later(a, b):
-    if a[0] == "0" or b[0] == "0":
-        return sign(a.rstrip("0"), b.rstrip("0"))
-    return sign(int(a), int(b))
-
-
-def compare_suffixes(first, second):
-    for (word, number), (other, other_number) in zip(first, second):
-        order = sign(SUFFIXES.index(word), SUFFIXES.index(other)) or sign(int(number or 0), int(other_number or 0))
-        if order:
-            return order
-    if len(first) == len(second):
-        return 0
-    longer, way = (first, 1) if len(first) > len(second) else (second, -1)
-    return way if longer[min(len(first), len(second))][0] == "p" else -way
-
-
-def compare(first, second, with_revision=True):
-    (numbers, letter, suffixes, revision), (others, other_letter, other_suffixes, other_revision) = parts(first), parts(second)
-    order = sign(int(numbers[0]), int(others[0]))
-    for a, b in zip(numbers[1:], others[1:]):
-        order = order or compare_later(a, b)
-    order = order or sign(len(numbers), len(others)) or sign(letter, other_letter) or compare_suffixes(suffixes, other_suffixes)
-    return order or (sign(int(revision or 0), int(other_revision or 0)) if with_revision else 0)
-
-
-def pieces(version):
-    numbers, letter, suffixes, revision = parts(version)
-    yield "first", int(numbers[0])
-    for number in numbers[1:]:
-        yield "later", number
-    if letter:
-        yield "letter", letter
-    for word, number in suffixes:
-        yield "suffix", (word, int(number or 0))
-    if revision is not None:
-        yield "revision", int(revision)
-
-
-def begins(front, version):
-    front, version = list(pieces(front)), list(pieces(version))
-    return len(front) <= len(version) and all(
-        kind == other and (compare_later(a, b) == 0 if kind == "later" else a == b)
-        for (kind, a), (other, b) in zip(front, version))
-
-
-# Expressions: ("atom", atom), ("flag", flag, negated), ("if", flag, negated, trees), ("all" | "any" | "one" | "most", trees)
-
-def text(tree):
-    kind = tree[0]
-    if kind == "atom":
-        return tree[1]["text"]
-    signed = ("!" if tree[2] else "") + tree[1] if kind in ("flag", "if") else ""
-    if kind == "flag":
-        return signed
-    head = {"if": signed + "? ", "all": "", "any": "|| ", "one": "^^ ", "most": "?? "}[kind]
-    return head + "( " + "".join(text(child) + " " for child in tree[-1]) + ")"
-
-
-def holds(tree, on, met, empty):
-    kind = tree[0]
-    if kind == "atom":
-        return met(tree[1])
-    if kind == "flag":
-        return on(tree[1]) != tree[2]
-    if kind == "if" and on(tree[1]) == tree[2]:
-        return True
-    if kind in ("all", "if"):
-        return all(holds(child, on, met, empty) for child in tree[-1])
-    members = [child for child in tree[1] if child[0] != "if" or on(child[1]) != child[2]]
-    values = [holds(member, on, met, empty) for member in members]
-    if kind == "most":
-        return sum(values) <= 1
-    if not values:
-        return empty
-    return any(values) if kind == "any" else sum(values) == 1
-
-
-def mentions(tree):
-    own = {tree[1]} if tree[0] in ("flag", "if") else set()
-    return own.union(*(mentions(child) for child in tree[-1])) if isinstance(tree[-1], list) else own
-
-
-# A random repository
-
-def draw_atom(draw):
+def draw_atom(draw, asks=0.0):
     name = draw.choice(PACKAGES + ["x/none"])
     op = draw.choice(["", "", "", "<", "<=", "=", "~", ">=", ">", "=*"])
     block = draw.choice([""] * 5 + ["!", "!!"])
-    version = draw.choice(VERSIONS)
     slot = draw.choice(["", "", "", "", "", ":0", ":1", ":0/0", ":0/2", ":*", ":=", ":0=", ":1/1="])
-    wanted = block + op.rstrip("*") + name + ("-" + version if op else "") + ("*" if op == "=*" else "") + slot
-    return {"text": wanted, "block": block, "name": name, "op": op, "version": version, "slot": slot}
+    items = draw.choice(["[a]", "[-b,c(+)]", "[a?]", "[!d=]"]) if draw.random() < asks else ""
+    return block + op.rstrip("*") + name + ("-" + draw.choice(VERSIONS) if op else "") + ("*" if op == "=*" else "") + slot + items
 
 
-def draw_tree(draw, depth, required):
+def draw_tree(draw, depth, required, asks):
     kind = draw.randrange(10)
+    signed = draw.choice(["", "", "!"]) + draw.choice(FLAGS)
     if depth == 0 or kind < 5:
-        return ("flag", draw.choice(FLAGS), draw.random() < 0.4) if required else ("atom", draw_atom(draw))
-    children = [draw_tree(draw, depth - 1, required) for _ in range(draw.randrange(4))]
-    if kind < 8:
-        return ("if", draw.choice(FLAGS), draw.random() < 0.4, children)
-    return (draw.choice(["all", "any", "any"] + (["one", "most", "one"] if required else [])), children)
+        return signed if required else draw_atom(draw, asks)
+    children = " ".join(draw_tree(draw, depth - 1, required, asks) for _ in range(draw.randrange(4)))
+    heads = ["", "|| ", "|| "] + (["^^ ", "?? ", "^^ "] if required else [])
+    head = signed + "? " if kind < 8 else draw.choice(heads)
+    return head + "( " + children + " )"
 
 
-def draw_expression(draw, required):
-    return [draw_tree(draw, 3, required) for _ in range(draw.randrange(3 if required else 4))]
+def draw_expression(draw, required, asks):
+    trees = [draw_tree(draw, 3, required, asks) for _ in range(draw.randrange(3 if required else 4))]
+    return draw.choice([" ", "  ", "\t"]).join(trees) + (" )" if draw.random() < 0.06 else "")
 
 
-def draw_package(draw):
-    package = {"name": draw.choice(PACKAGES), "version": draw.choice(VERSIONS), "eapi": draw.choice([5, 6, 7, 8])}
-    slot = draw.choice(["0", "1", "0/2", "1/1"])
-    keywords = draw.choice(["amd64", "~amd64", "amd64 x86", "~x86 amd64", "-* x86", ""])
-    iuse = draw.sample(FLAGS, draw.randrange(6))
-    package.update(pf=package["name"] + "-" + package["version"], keywords=keywords.split(), iuse=set(iuse),
-                   slot=slot.split("/")[0], sub=slot.split("/")[-1])
-    lines = ["EAPI=%d" % package["eapi"], "SLOT=" + slot, "KEYWORDS=" + keywords,
-             "IUSE=" + " ".join(draw.choice(["", "+", "-"]) + flag for flag in iuse)]
-    for key in ["REQUIRED_USE"] + CLASSES:
-        required = key == "REQUIRED_USE"
-        trees = draw_expression(draw, required) if draw.random() < 0.5 else []
-        broken = draw.random() < 0.06
-        package[key] = None if broken else trees
-        lines.append(key + "=" + draw.choice([" ", "  ", "\t"]).join(map(text, trees)) + (" )" if broken else ""))
-    package["entry"] = "".join(line + "\n" for line in lines)
-    return package
+# Profiles
+
+def draw_lines(draw, line, most):
+    """Lines, of which some are comments or bad."""
+    odd = ["# a b", "", "\t", "-", "/", "a b c", "* *", "x/y:"]
+    return "".join((draw.choice(odd) if draw.random() < 0.15 else line()) + draw.choice(["\n"] * 5 + [" # c\n", "\r\n"])
+                   for _ in range(draw.randrange(most)))
+
+
+def draw_defaults(draw):
+    known = ['USE_EXPAND="K"', "USE_EXPAND_IMPLICIT='K U'", "USE_EXPAND_UNPREFIXED=U", "X=b", 'USE_EXPAND_VALUES_K="a b"',
+             'USE_EXPAND_VALUES_U="d ${X}"']
+    lines = ['IUSE_IMPLICIT="v"', "IUSE_IMPLICIT='a -e'", 'USE_EXPAND="K"', "USE_EXPAND_IMPLICIT=K", "USE_EXPAND_VALUES_K='a b'",
+             'USE_EXPAND_UNPREFIXED="U"', 'USE_EXPAND_IMPLICIT="K U"', 'USE_EXPAND_VALUES_U="d ${X} e"', "X=b\\ c", "X=$X$X",
+             'IUSE_IMPLICIT="${IUSE_IMPLICIT} c -v"', "USE_EXPAND_IMPLICIT='-* U'", "IUSE_IMPLICIT='-* b'", 'USE_EXPAND_VALUES_K="a\\\n b"', "# X=1", "X=a#b",
+             "A+=1", 'X="']
+    weights = [6] * (len(lines) - 2) + [1, 1]
+    drawn = (known if draw.random() < 0.6 else []) + draw.choices(lines, weights, k=draw.randrange(5))
+    return "".join(line + draw.choice(["\n", " ", "\n\n"]) for line in drawn)
+
+
+def put_file_or_folder(draw, files, path, content):
+    """The lines in one file, or spread over the files of a folder, of which some aren't read."""
+    if draw.random() < 0.7:
+        files[path] = content
+        return
+    lines = content.splitlines(True)
+    at = draw.randrange(len(lines) + 1)
+    files[path + "/10-first"], files[path + "/9"] = "".join(lines[:at]), "".join(lines[at:])
+    files[path + "/.hidden"], files[path + "/sub/file"] = "a\n-b\n", "a\n"
+
+
+def put_profile(draw, files, folder, masked):
+    path = "profiles/" + folder
+
+    def flag():
+        return draw.choice(["", "", "-"]) + draw.choice(FLAGS)
+
+    def package_flags():
+        return draw.choice(masked) + " " + " ".join(flag() for _ in range(draw.randrange(1, 3))) + draw.choice([""] * 6 + [" *"])
+
+    def mask():
+        return draw.choice(["", "", "-"]) + draw.choice(masked)
+
+    files[path + "/eapi"] = draw.choice(["8\n"] * 8 + ["5", "4\n", "# none\n", "9\n"])
+    if draw.random() < 0.5:
+        files[path + "/make.defaults"] = draw_defaults(draw)
+    for name in ("use.mask", "use.force", "use.stable.mask", "use.stable.force"):
+        if draw.random() < 0.3:
+            put_file_or_folder(draw, files, path + "/" + name, draw_lines(draw, flag, 4))
+    for name in ("package.use.mask", "package.use.force", "package.use.stable.mask", "package.use.stable.force"):
+        if draw.random() < 0.2:
+            put_file_or_folder(draw, files, path + "/" + name, draw_lines(draw, package_flags, 3))
+    if draw.random() < 0.4:
+        put_file_or_folder(draw, files, path + "/package.mask", draw_lines(draw, mask, 3))
+
+
+def put_parents(draw, files):
+    for at, folder in enumerate(FOLDERS):
+        up = "../" * (folder.count("/") + 1)
+        parents = [up + other for other in draw.sample(FOLDERS[at + 1:], min(len(FOLDERS) - at - 1, draw.randrange(3)))]
+        if parents and draw.random() < 0.5:
+            parents.append(parents[0])
+        if draw.random() < 0.06:
+            parents.insert(0, draw.choice(["../gone", ".", "..", "../../../..", up + draw.choice(FOLDERS) + "/"]))
+        if parents:
+            files["profiles/%s/parent" % folder] = draw_lines(draw, iter(parents * 4).__next__, 4)
+
+
+# Entries
+
+def put_entry(draw, files, asks):
+    name, version = draw.choice(PACKAGES), draw.choice(VERSIONS)
+    category, package = name.split("/")
+    ebuild = draw.choice(["", "# an ebuild\n"])
+    digest = hashlib.md5(ebuild.encode()).hexdigest()
+    eclasses = draw.sample(ECLASSES, draw.choice([0, 0, 1, 2]))
+    pairs = [part for eclass in eclasses for part in (eclass, hashlib.md5(files["eclass/%s.eclass" % eclass].encode()).hexdigest())]
+    if draw.random() < 0.05:
+        pairs = draw.choice([["one"], ["one", "0" * 32], ["none", digest], ["one", digest, ""]])
+    iuse = " ".join(draw.choice(["", "+", "-"]) + flag for flag in draw.sample(FLAGS, draw.randrange(6)))
+    lines = ["EAPI=" + draw.choice(list("5678") + ["8"] * 4 + ["4"]), "SLOT=" + draw.choice(["0", "1", "0/2", "1/1", "0"]),
+             "KEYWORDS=" + draw.choice(["amd64", "~amd64", "amd64 x86", "~x86 amd64", "-* x86", "", "amd64 ~~x86"]),
+             "IUSE=" + iuse, "_md5_=" + draw.choice([digest] * 9 + [digest.upper(), "0" * 32]), "_eclasses_=" + "\t".join(pairs)]
+    for key in ["REQUIRED_USE"] + plain.CLASSES:
+        if draw.random() < 0.5:
+            lines.append("%s=%s" % (key, draw_expression(draw, key == "REQUIRED_USE", asks)))
+    files["metadata/md5-cache/%s/%s-%s" % (category, package, version)] = "".join(line + "\n" for line in lines)
+    if draw.random() < 0.95:
+        files["%s/%s/%s-%s.ebuild" % (category, package, package, version)] = ebuild
 
 
 def draw_repository(draw):
-    masks = {path: [draw.choice(["", "-"]) + draw.choice(FLAGS) for _ in range(draw.randrange(3))] for _, path, _ in PROFILES}
-    packages = {}
-    for _ in range(draw.randrange(1, 8)):
-        package = draw_package(draw)
-        packages.setdefault(package["pf"], package)
-    return masks, list(packages.values())
-
-
-def files_of(masks, packages):
-    yield "profiles/categories", "app\nx\n"
-    yield "profiles/profiles.desc", "".join(" ".join(profile) + "\n" for profile in PROFILES)
-    yield "metadata/md5-cache/x/Manifest.gz", "no name of a package and a version\n"
-    for path, words in masks.items():
-        yield "profiles/%s/eapi" % path, "8\n"
-        if words:
-            yield "profiles/%s/use.mask" % path, "".join(word + "\n" for word in words)
-    for package in packages:
-        yield "metadata/md5-cache/" + package["pf"], package["entry"]
-
-
-# Judging
-
-def matches(atom, package):
-    if atom["name"] != package["name"]:
-        return False
-    op = atom["op"]
-    if op == "=*" and not begins(atom["version"], package["version"]):
-        return False
-    if op == "~" and compare(package["version"], atom["version"], with_revision=False) != 0:
-        return False
-    if op in ("<", "<=", "=", ">=", ">"):
-        order = compare(package["version"], atom["version"])
-        if not {"<": order < 0, "<=": order <= 0, "=": order == 0, ">=": order >= 0, ">": order > 0}[op]:
-            return False
-    wanted = atom["slot"][1:].rstrip("=").rstrip("*")
-    if not wanted:
-        return True
-    slot, _, sub = wanted.partition("/")
-    return slot == package["slot"] and sub in ("", package["sub"])
-
-
-def level_of(package, arch):
-    if arch in package["keywords"]:
-        return "stable"
-    return "testing" if "~" + arch in package["keywords"] else None
-
-
-def is_shown(package, arch, level):
-    return arch in package["keywords"] or level == "testing" and "~" + arch in package["keywords"]
-
-
-def masked_by(words):
-    masked = set()
-    for word in words:
-        masked.discard(word[1:]) if word[0] == "-" else masked.add(word)
-    return masked
-
-
-def line_of(package, key, profile, masked, packages):
-    """The report of the least failing assignment, or nothing."""
-    arch, path, status = profile
-    level = level_of(package, arch)
-    lacking = key == "BDEPEND" and package["eapi"] < 7 or key == "IDEPEND" and package["eapi"] < 8
-    required, trees = package["REQUIRED_USE"], package[key]
-    if level is None or lacking or required is None or trees is None:
-        return ""
-    shown = [other for other in packages if is_shown(other, arch, level)]
-    mentioned = set().union(*(mentions(tree) for tree in required + trees))
-    flags = sorted(flag for flag in mentioned if flag in package["iuse"] and flag not in masked)
-    empty = package["eapi"] < 7
-
-    def met(atom):
-        return atom["block"] != "" or any(matches(atom, other) for other in shown)
-
-    for bits in itertools.product([False, True], repeat=len(flags)):
-        assignment = dict(zip(flags, bits))
-
-        def on(flag):
-            return assignment.get(flag, False)
-
-        if all(holds(tree, on, met, empty) for tree in required):
-            for tree in trees:
-                if not holds(tree, on, met, empty):
-                    use = " ".join(("" if bit else "-") + flag for flag, bit in zip(flags, bits))
-                    return '%s: %s: %s: %s %s %s: USE="%s": %s\n' % (
-                        package["pf"], KEYWORD_OF_STATUS[status], key, arch, path, level, use, text(tree))
-    return ""
-
-
-def report_of(masks, packages):
-    def place(package):
-        category, name = package["name"].split("/")
-        return category, name, functools.cmp_to_key(compare)(package["version"]), package["pf"]
-
-    return "".join(
-        line_of(package, key, profile, masked_by(masks[profile[1]]), packages)
-        for package in sorted(packages, key=place)
-        for status in ["stable", "dev", "exp"]
-        for key in CLASSES
-        for profile in PROFILES if profile[2] == status)
+    files = {"profiles/categories": "app\nx # the others\n", "metadata/md5-cache/x/Manifest.gz": "no package and version\n",
+             "x/y/y-9.ebuild": "no entry\n", "eclass/one.eclass": "", "eclass/two.eclass": "# two\n"}
+    lines = [("amd64", "base", "stable"), ("amd64", "other", "dev"), ("x86", "third/", "exp"), ("amd64", "top/inner", "exp more"),
+             ("amd64", "gone", "dev"), ("x86", "top/../other", "stable"), ("amd64", "base", "dev"), ("amd64", "base", "none")]
+    rows = draw.sample(lines, draw.randrange(1, 5))
+    files["profiles/profiles.desc"] = "".join(" ".join(row) + draw.choice(["\n", "\n", "\n# c\n"]) for row in rows)
+    masked = [draw_atom(draw).lstrip("!") for _ in range(4)]
+    for folder in FOLDERS:
+        put_profile(draw, files, folder, masked)
+    put_parents(draw, files)
+    if draw.random() < 0.4:
+        put_file_or_folder(draw, files, "profiles/package.mask", draw.choice(masked) + "\n")
+    asks = draw.choice([0, 0, 0, 0.1])
+    for _ in range(draw.randrange(1, 9)):
+        put_entry(draw, files, asks)
+    return {path: content.encode() for path, content in files.items()}
 
 
 def scanned(binary, files):
     with tempfile.TemporaryDirectory() as folder:
-        for path, content in files:
+        for path, content in files.items():
             path = os.path.join(folder, "R", path)
             os.makedirs(os.path.dirname(path), exist_ok=True)
-            with open(path, "w") as file:
+            with open(path, "wb") as file:
                 file.write(content)
         done = subprocess.run([binary, "scan", "R", "--certs", "C"], cwd=folder, capture_output=True, text=True, timeout=60)
     return done.returncode, done.stdout, done.stderr
@@ -283,16 +176,17 @@ def scanned(binary, files):
 
 def main():
     binary, first, last = os.path.abspath(sys.argv[1]), int(sys.argv[2]), int(sys.argv[3])
-    lines = 0
+    lines, statuses = 0, {}
     for number in range(first, last):
-        masks, packages = draw_repository(random.Random(number))
-        want = report_of(masks, packages)
-        got = scanned(binary, files_of(masks, packages))
-        if got != (1 if want else 0, want, ""):
+        files = draw_repository(random.Random(number))
+        want = plain.scan(files)
+        got = scanned(binary, files)
+        if got != want:
             print("repository %d: got %r, want %r" % (number, got, want))
             return 1
-        lines += want.count("\n")
-    print("%d repositories alike, with %d lines" % (last - first, lines))
+        lines += want[1].count("\n")
+        statuses[want[0]] = statuses.get(want[0], 0) + 1
+    print("%d repositories alike, with %d lines, by status: %s" % (last - first, lines, sorted(statuses.items())))
     return 0
 
 

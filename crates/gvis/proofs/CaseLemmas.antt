@@ -9,10 +9,9 @@ use Rattle.gv_entry.specs.declared.entry.Body.{Body}
 use Rattle.gv_facts.specs.declared.kinds.Level.TheVariants.{Stable, Testing}
 use Rattle.gv_facts.specs.declared.pkg.Pkg.{Pkg}
 use Rattle.gv_facts.specs.declared.profile.Profile.{Profile}
-use Rattle.gvis.specs.declared.repo.Member.{Member}
-use Rattle.gvis.specs.declared.repo.Repo.{Repo}
+use Rattle.gv_load.specs.declared.loading.Repo.{Repo}
 use Rattle.gvis.specs.Cases.{Case, cases_at, cases_in}
-use Rattle.gvis.specs.Pairs.{paired}
+use Rattle.gvis.specs.Pairs.{Member, paired}
 use Rattle.gvis.specs.RepoReports.{with_report}
 use Rattle.gv_report.specs.declared.report.Report.{Report}
 

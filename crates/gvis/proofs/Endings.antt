@@ -5,12 +5,10 @@ use Rattle.std.proofs.lemmas.Bool.{false≢true, lt-ltb}
 use Rattle.gv_base.specs.Causes.{Rose}
 use Rattle.gv_base.specs.FileMap.{FileMap}
 use Rattle.gv_base.specs.Words.{is_empty}
-use Rattle.gvis.specs.declared.faults.LoadFault.{LoadFault}
-use Rattle.gvis.specs.declared.faults.LoadFault.TheVariants as faults
+use Rattle.gv_load.specs.Look.{look_of}
 use Rattle.gvis.specs.declared.refusal.Refusal.{Refusal}
-use Rattle.gvis.specs.declared.refusal.Refusal.TheVariants.{BadWords, TreeFailed, OutputFailed, NoMemory, NotARepository, NotBuilt}
+use Rattle.gvis.specs.declared.refusal.Refusal.TheVariants.{BadWords, TreeFailed, OutputFailed, NoMemory, NotARepository, Limit, NotBuilt}
 use Rattle.gvis.specs.Endings.{Told, GainsFront, SaysLine, SaysNothing, TellsRefusal, refusal_line, refusal_status, well_status}
-use Rattle.gvis.specs.Look.{look_of}
 use Rattle.gvis.specs.Run.{Ending, Leaves, Refused, Refuses, Reports, Scans, World}
 use Rattle.gvis.specs.Scan.{IsText, IsRefused, said_by, scan_of}
 use Rattle.gvis.specs.Words.{is_scan}
@@ -35,6 +33,7 @@ module _ (words : List (List ℕ)) (old new : World) (err : Told) (files : new.f
     fault = apart _ 0 3 refl refl;
     no_memory = apart _ 0 5 refl refl;
     not_a_repository = apart _ 0 6 refl refl;
+    limit = apart _ 0 7 refl refl;
     not_built = apart _ 0 9 refl refl;
     files = files;
     tree_later = tree;
@@ -48,6 +47,7 @@ module _ (words : List (List ℕ)) (old new : World) (err : Told) (files : new.f
     fault = apart _ 1 3 refl refl;
     no_memory = apart _ 1 5 refl refl;
     not_a_repository = apart _ 1 6 refl refl;
+    limit = apart _ 1 7 refl refl;
     not_built = apart _ 1 9 refl refl;
     files = files;
     tree_later = tree;
@@ -63,6 +63,7 @@ module _ (words : List (List ℕ)) (old new : World) (err : Told) (files : new.f
     fault = apart _ 5 3 refl refl;
     no_memory = λ five. (refusal, why, front);
     not_a_repository = apart _ 5 6 refl refl;
+    limit = apart _ 5 7 refl refl;
     not_built = apart _ 5 9 refl refl;
     files = files;
     tree_later = tree;
@@ -78,6 +79,7 @@ module _ (words : List (List ℕ)) (old new : World) (err : Told) (files : new.f
     fault = λ three. either;
     no_memory = apart _ 3 5 refl refl;
     not_a_repository = apart _ 3 6 refl refl;
+    limit = apart _ 3 7 refl refl;
     not_built = apart _ 3 9 refl refl;
     files = files;
     tree_later = tree;
@@ -93,6 +95,7 @@ module _ (words : List (List ℕ)) (old new : World) (err : Told) (files : new.f
     fault = apart _ 2 3 refl refl;
     no_memory = apart _ 2 5 refl refl;
     not_a_repository = apart _ 2 6 refl refl;
+    limit = apart _ 2 7 refl refl;
     not_built = apart _ 2 9 refl refl;
     files = files;
     tree_later = tree;
@@ -109,7 +112,22 @@ module _ (words : List (List ℕ)) (old new : World) (err : Told) (files : new.f
     fault = apart _ 6 3 refl refl;
     no_memory = apart _ 6 5 refl refl;
     not_a_repository = λ six. (path, (why, line));
+    limit = apart _ 6 7 refl refl;
     not_built = apart _ 6 9 refl refl;
+    files = files;
+    tree_later = tree;
+    out_later = out;
+    err_later = later;
+  }
+  ends_refused (Limit place number) why line front = record {
+    statuses = refl;
+    reports = above _ 7 2 refl;
+    bad_words = apart _ 7 2 refl refl;
+    fault = apart _ 7 3 refl refl;
+    no_memory = apart _ 7 5 refl refl;
+    not_a_repository = apart _ 7 6 refl refl;
+    limit = λ seven. (place, number, (why, line));
+    not_built = apart _ 7 9 refl refl;
     files = files;
     tree_later = tree;
     out_later = out;
@@ -122,6 +140,7 @@ module _ (words : List (List ℕ)) (old new : World) (err : Told) (files : new.f
     fault = apart _ 9 3 refl refl;
     no_memory = apart _ 9 5 refl refl;
     not_a_repository = apart _ 9 6 refl refl;
+    limit = apart _ 9 7 refl refl;
     not_built = λ nine. (place, (why, line));
     files = files;
     tree_later = tree;
@@ -165,6 +184,7 @@ bad_refusal words old new err (TreeFailed path) status why tells bad = words_bad
 bad_refusal words old new err OutputFailed status why tells bad = words_bad words _ bad why.0.scan
 bad_refusal words old new err NoMemory status why tells bad = inr (five_only status (or_five err NoMemory status tells))
 bad_refusal words old new err (NotARepository path) status why tells bad = words_bad words _ bad why.0.scan
+bad_refusal words old new err (Limit place number) status why tells bad = words_bad words _ bad why.0.scan
 bad_refusal words old new err (NotBuilt place) status why tells bad = words_bad words _ bad why.0.scan
 
 pub bad_only : (words : List (List ℕ)) (old new : World) (err : Told) (ending : Ending) (status : ℕ) → Scans words old new ending →
@@ -185,10 +205,10 @@ says_five : (told : Option FileMap) (status : ℕ) → status ≡ 5 → Says tol
 says_five None status five = tt
 says_five (Some m) status five = inr five
 
-says_refused : (told : Option FileMap) (fault : LoadFault) (status : ℕ) → IsRefused told fault → (status ≡ said_by (Err fault)) ⊎ (status ≡ 5) → Says told status
-says_refused None fault status is code = tt
-says_refused (Some m) fault status is (inl code) = inl (code ∙ sym (ap said_by is))
-says_refused (Some m) fault status is (inr five) = inr five
+says_refused : (told : Option FileMap) (refusal : Refusal) (status : ℕ) → IsRefused told refusal → (status ≡ refusal_status refusal) ⊎ (status ≡ 5) → Says told status
+says_refused None refusal status is code = tt
+says_refused (Some m) refusal status is (inl code) = inl (code ∙ sym (ap said_by is))
+says_refused (Some m) refusal status is (inr five) = inr five
 
 refused_says : (words : List (List ℕ)) (old new : World) (err : Told) (refusal : Refusal) (status : ℕ) → Refuses words old new refusal → TellsRefusal err refusal status → is_scan words ≡ true →
     (Rose old.tree_faults new.tree_faults → ⊥) → (Rose old.out_faults new.out_faults → ⊥) → Says old.files status
@@ -196,8 +216,9 @@ refused_says words old new err BadWords status why tells good tree out = words_b
 refused_says words old new err (TreeFailed path) status why tells good tree out = absurd (tree why.1)
 refused_says words old new err OutputFailed status why tells good tree out = absurd (out why.2)
 refused_says words old new err NoMemory status why tells good tree out = says_five old.files status (five_only status (or_five err NoMemory status tells))
-refused_says words old new err (NotARepository path) status why tells good tree out = says_refused old.files (faults.NotARepository path) status why.3 (or_five err (NotARepository path) status tells)
-refused_says words old new err (NotBuilt place) status why tells good tree out = says_refused old.files (faults.NotBuilt place) status why.3 (or_five err (NotBuilt place) status tells)
+refused_says words old new err (NotARepository path) status why tells good tree out = says_refused old.files (NotARepository path) status why.3 (or_five err (NotARepository path) status tells)
+refused_says words old new err (Limit place number) status why tells good tree out = says_refused old.files (Limit place number) status why.3 (or_five err (Limit place number) status tells)
+refused_says words old new err (NotBuilt place) status why tells good tree out = says_refused old.files (NotBuilt place) status why.3 (or_five err (NotBuilt place) status tells)
 
 pub complete : (words : List (List ℕ)) (old new : World) (err : Told) (ending : Ending) (status : ℕ) → Scans words old new ending →
     IfOk ending (λ some. (status ≡ well_status some) × SaysNothing err) → IfErr ending (λ refusal. TellsRefusal err refusal status) → is_scan words ≡ true →

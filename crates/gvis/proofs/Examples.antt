@@ -1,11 +1,8 @@
 -- Worked examples of entries and reports.
 use Rattle.std.specs.Prelude.{◌≡◌, ℕ, List, [], ◌∷◌, ◌++◌, None, Some, map, refl, codes}
-use Rattle.gvis.specs.declared.repo.Member.{Member}
 use Rattle.gv_facts.specs.declared.kinds.Status.TheVariants.{Stable, Exp}
-use Rattle.gv_entry.specs.EntryRead.{entry_of}
-use Rattle.gvis.specs.declared.faults.LoadFault.TheVariants.{NotBuilt}
-use Rattle.gvis.specs.Reading.{not_built}
-use Rattle.gvis.specs.RepoReports.{scan_text, first_wide}
+use Rattle.gvis.specs.Pairs.{Member}
+use Rattle.gvis.specs.RepoReports.{scan_text, first_untried}
 use Rattle.gvis.proofs.Worlds.{profile_of, base_with, mask, unmask, of_entry, usual, app, other, repo_of}
 
 -- nothing to report
@@ -106,7 +103,7 @@ by_version = refl
 broken_required : scan_text (repo_of (base_with [] ∷ []) (app (usual (codes "REQUIRED_USE=( a\nRDEPEND=x/none\n")) ++ other (usual (codes "RDEPEND=app/p\nDEPEND=app/p )\n")))) ≡ []
 broken_required = refl
 
--- Flags of a query: twelve are tried, thirteen are too many.
+-- Queries that aren't tried. Of flags twelve are tried, thirteen are too many.
 flags_from : List (List ℕ) → List ℕ
 flags_from [] = []
 flags_from (f ∷ fs) = f ++ (codes "? ( x/none ) " ++ flags_from fs)
@@ -117,20 +114,26 @@ twelve = map (λ b. b ∷ []) (codes "abcdefghijkl")
 wide_entry : List ℕ → List (List ℕ) → List ℕ
 wide_entry iuse flags = usual (codes "IUSE=" ++ (iuse ++ (codes "\nPDEPEND=" ++ (flags_from flags ++ codes "\n"))))
 
-of_twelve : first_wide (repo_of (base_with [] ∷ []) (app (wide_entry (codes "a b c d e f g h i j k l m") twelve))) ≡ None
+of_twelve : first_untried (repo_of (base_with [] ∷ []) (app (wide_entry (codes "a b c d e f g h i j k l m") twelve))) ≡ None
 unfolding flags_from twelve wide_entry
 of_twelve = refl
 
-of_thirteen : first_wide (repo_of (base_with [] ∷ [])
+of_thirteen : first_untried (repo_of (base_with [] ∷ [])
     (other (wide_entry (codes "a b c d e f g h i j k l m") (twelve ++ codes "m" ∷ [])) ++ app (wide_entry (codes "a b c d e f g h i j k l m") (twelve ++ codes "m" ∷ []))))
     ≡ Some (codes "app/p-1")
 unfolding flags_from twelve wide_entry
 of_thirteen = refl
 
--- Entries.
--- an atom with USE items isn't judged yet, a blocker with some is, and a broken class is passed over
-no_use_yet : not_built (codes "here") (entry_of (codes "app") (codes "p-1") (usual (codes "DEPEND=|| ( a? ( x/y[a] ) )\n"))) ≡ Some (NotBuilt (codes "here"))
-no_use_yet = refl
+-- an atom with USE items isn't tried yet, a blocker with some is; a broken class and one that the EAPI lacks have no query
+asks : first_untried (repo_of (base_with [] ∷ []) (other (usual (codes "DEPEND=app/p\n")) ++ app (usual (codes "DEPEND=|| ( a? ( x/y[a] ) )\n")))) ≡ Some (codes "app/p-1")
+asks = refl
+
+asks_nothing : first_untried (repo_of (base_with [] ∷ []) (app (codes "EAPI=6\nSLOT=0\nKEYWORDS=amd64\nDEPEND=!x/none[a]\nBDEPEND=x/y[a]\nPDEPEND=x/y[a] (\n"))) ≡ None
+asks_nothing = refl
+
+-- a package that no profile judges has none
+asks_elsewhere : first_untried (repo_of (base_with [] ∷ []) (app (codes "EAPI=8\nSLOT=0\nKEYWORDS=x86\nDEPEND=x/y[a]\n"))) ≡ None
+asks_elsewhere = refl
 
 blocker_asks : scan_text (repo_of (base_with [] ∷ []) (app (usual (codes "DEPEND=!x/none[a] !!<x/none-2\nPDEPEND=x/y[a] (\n")))) ≡ []
 blocker_asks = refl

@@ -6,9 +6,8 @@ use Rattle.gv_facts.specs.declared.pkg.Pkg.{Pkg}
 use Rattle.gv_facts.specs.declared.profile.Profile.{Profile}
 use Rattle.gv_facts.specs.Visible.{judged}
 use Rattle.gv_entry.specs.Allowed.{Parent}
-use Rattle.gvis.specs.declared.repo.Member.{Member}
-use Rattle.gvis.specs.declared.repo.Repo.{Repo}
-use Rattle.gvis.specs.Pairs.{paired}
+use Rattle.gv_load.specs.declared.loading.Repo.{Repo}
+use Rattle.gvis.specs.Pairs.{Member, paired}
 
 abbrev pub members : Repo → List Member
 members repo = paired repo.pkgs repo.bodies

@@ -1,9 +1,9 @@
 -- How a run ends: its status, and the line that says why there is no answer.
-use Rattle.std.specs.Prelude.{◌≡◌, ℕ, nat_lt, ◌==◌, List, [], ◌∷◌, ◌++◌, Bool, ◌||◌, Option, take, codes, if◌then◌else◌, ◌⊎◌}
+use Rattle.std.specs.Prelude.{◌≡◌, ℕ, nat_lt, ◌==◌, List, [], ◌∷◌, ◌++◌, Bool, ◌||◌, Option, take, codes, decimal, if◌then◌else◌, ◌⊎◌}
 use Rattle.gv_base.specs.Causes.{Rose}
 use Rattle.gv_base.specs.Outside.{gains}
 use Rattle.gvis.specs.declared.refusal.Refusal.{Refusal}
-use Rattle.gvis.specs.declared.refusal.Refusal.TheVariants.{BadWords, TreeFailed, OutputFailed, NoMemory, NotARepository, NotBuilt}
+use Rattle.gvis.specs.declared.refusal.Refusal.TheVariants.{BadWords, TreeFailed, OutputFailed, NoMemory, NotARepository, Limit, NotBuilt}
 
 -- 0 without reports, 1 with some
 abbrev pub well_status : Bool → ℕ
@@ -15,11 +15,12 @@ refusal_status (TreeFailed path) = 3
 refusal_status OutputFailed = 3
 refusal_status NoMemory = 5
 refusal_status (NotARepository path) = 6
+refusal_status (Limit place number) = 7
 refusal_status (NotBuilt place) = 9
 
 -- no run ends with another status
 abbrev pub is_status : ℕ → Bool
-is_status status = nat_lt status 4 || (status == 5 || (status == 6 || status == 9))
+is_status status = nat_lt status 4 || (status == 5 || (status == 6 || (status == 7 || status == 9)))
 
 abbrev pub refusal_text : Refusal → List ℕ
 refusal_text BadWords = codes "gvis: bad command line"
@@ -27,6 +28,7 @@ refusal_text (TreeFailed path) = codes "gvis: fault: tree " ++ path
 refusal_text OutputFailed = codes "gvis: fault: output"
 refusal_text NoMemory = codes "gvis: out of memory"
 refusal_text (NotARepository path) = codes "gvis: not a repository: " ++ path
+refusal_text (Limit place number) = codes "gvis: limit: " ++ (place ++ (codes " " ++ decimal number))
 refusal_text (NotBuilt place) = codes "gvis: not built: " ++ place
 
 -- with its line feed

@@ -2,7 +2,10 @@
 use Rattle.std.specs.Prelude.{List, [], ◌∷◌}
 use Rattle.gv_facts.specs.declared.pkg.Pkg.{Pkg}
 use Rattle.gv_entry.specs.declared.entry.Body.{Body}
-use Rattle.gvis.specs.declared.repo.Member.{Member}
+
+pub record Member : Type 0 where
+  pub pkg : Pkg
+  pub body : Body
 
 -- each package with its body
 abbrev pub paired : List Pkg → List Body → List Member

@@ -5,7 +5,7 @@ use Rattle.gv_expr.specs.DepGrammar.{item_text}
 use Rattle.gv_base.specs.Words.{joined}
 use Rattle.gv_facts.specs.declared.kinds.Class.{Class}
 use Rattle.gv_facts.specs.declared.pkg.Pkg.{Pkg}
-use Rattle.gvis.specs.declared.repo.Repo.{Repo}
+use Rattle.gv_load.specs.declared.loading.Repo.{Repo}
 use Rattle.gv_facts.specs.declared.kinds.Status.{Status}
 use Rattle.gv_facts.specs.declared.kinds.Status.TheVariants.{Stable, Dev, Exp}
 use Rattle.gv_report.specs.declared.keyword.Keyword.{Keyword}
@@ -21,7 +21,7 @@ use Rattle.gv_report.specs.ReportText.{subject_text}
 use Rattle.gv_entry.specs.Allowed.{Parent, assignment, first_failing}
 use Rattle.gvis.specs.Cases.{Case, cases}
 use Rattle.gvis.specs.Classes.{classes}
-use Rattle.gvis.specs.Queries.{class_of, flags_of, has_query, has_wide, least_asked}
+use Rattle.gvis.specs.Queries.{class_of, flags_of, has_query, has_untried, least_asked}
 
 abbrev pub subject_of : Pkg → Subject
 subject_of p = Package p.category p.name p.version p.pf
@@ -72,12 +72,12 @@ with_report rs r = rs ++ r ∷ []
 abbrev pub scan_text : Repo → List ℕ
 scan_text repo = reports_text false (ordered (reports repo))
 
--- the package of a case, where that has a query of too many flags
-abbrev pub wide_of : Case → List Subject
-wide_of c = if has_wide c then subject_of c.member.pkg ∷ [] else []
+-- the package of a case, where that has a query that isn't tried
+abbrev pub untried_of : Case → List Subject
+untried_of c = if has_untried c then subject_of c.member.pkg ∷ [] else []
 
-abbrev pub wide_subjects : Repo → List Subject
-wide_subjects repo = flat_map wide_of (cases repo)
+abbrev pub untried_subjects : Repo → List Subject
+untried_subjects repo = flat_map untried_of (cases repo)
 
 -- the one of two subjects that comes first
 abbrev pub first_subject : Option Subject → Subject → Option Subject
@@ -85,5 +85,5 @@ first_subject None s = Some s
 first_subject (Some t) s = if is_lt (subject_cmp s t) then Some s else Some t
 
 -- CATEGORY/PF of the first of them in package order: queries are ordered by package before all else
-abbrev pub first_wide : Repo → Option (List ℕ)
-first_wide repo = option_map subject_text (fold first_subject None (wide_subjects repo))
+abbrev pub first_untried : Repo → Option (List ℕ)
+first_untried repo = option_map subject_text (fold first_subject None (untried_subjects repo))

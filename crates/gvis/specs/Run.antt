@@ -4,9 +4,8 @@ use Rattle.gv_base.specs.Causes.{Rose}
 use Rattle.gv_base.specs.FileMap.{FileMap}
 use Rattle.gv_base.specs.Outside.{gains}
 use Rattle.gv_base.specs.Words.{is_empty}
-use Rattle.gvis.specs.declared.faults.LoadFault.TheVariants as faults
 use Rattle.gvis.specs.declared.refusal.Refusal.{Refusal}
-use Rattle.gvis.specs.declared.refusal.Refusal.TheVariants.{BadWords, TreeFailed, OutputFailed, NoMemory, NotARepository, NotBuilt}
+use Rattle.gvis.specs.declared.refusal.Refusal.TheVariants.{BadWords, TreeFailed, OutputFailed, NoMemory, NotARepository, Limit, NotBuilt}
 use Rattle.gvis.specs.Endings.{Told, SaysLine, SaysNothing, GainsFront, is_status, refusal_line}
 use Rattle.gvis.specs.Scan.{IsText, IsRefused, said_by}
 use Rattle.gvis.specs.Words.{is_scan}
@@ -63,8 +62,9 @@ Refuses words old new BadWords = (is_scan words ≡ false) × SameRoot old new �
 Refuses words old new (TreeFailed path) = Entered words new × Rose old.tree_faults new.tree_faults × SameOut old new
 Refuses words old new OutputFailed = Entered words new × SameTree old new × Rose old.out_faults new.out_faults × WroteFront old new
 Refuses words old new NoMemory = (SameRoot old new × SameOut old new) ⊎ (Entered words new × (SameOut old new ⊎ WroteFront old new))
-Refuses words old new (NotARepository path) = Entered words new × SameTree old new × SameOut old new × IsRefused old.files (faults.NotARepository path)
-Refuses words old new (NotBuilt place) = Entered words new × SameTree old new × SameOut old new × IsRefused old.files (faults.NotBuilt place)
+Refuses words old new (NotARepository path) = Entered words new × SameTree old new × SameOut old new × IsRefused old.files (NotARepository path)
+Refuses words old new (Limit place number) = Entered words new × SameTree old new × SameOut old new × IsRefused old.files (Limit place number)
+Refuses words old new (NotBuilt place) = Entered words new × SameTree old new × SameOut old new × IsRefused old.files (NotBuilt place)
 
 -- ---- a scan, from the words to the text
 
@@ -91,7 +91,7 @@ Refused words old new err refusal = Refuses words old new refusal × SaysLine er
 
 -- what a run leaves. The files are never changed, and no count of faults falls
 pub record Leaves (words : List (List ℕ)) (old new : World) (err : Told) (status : ℕ) : Type 0 where
-  -- 0, 1, 2, 3, 5, 6 or 9
+  -- 0, 1, 2, 3, 5, 6, 7 or 9
   pub statuses : is_status status ≡ true
   -- 0 and 1: the text of the scan stands on out, and the status says whether it is empty
   pub reports : status < 2 → (text : List ℕ) × Reports words old new text × (status ≡ said_by (Ok text)) × SaysNothing err
@@ -100,6 +100,7 @@ pub record Leaves (words : List (List ℕ)) (old new : World) (err : Told) (stat
   -- 5: memory was wanted, for the work or for the line of another refusal
   pub no_memory : status ≡ 5 → (refusal : Refusal) × Refuses words old new refusal × GainsFront err.old err.new (refusal_line refusal)
   pub not_a_repository : status ≡ 6 → (path : List ℕ) × Refused words old new err (NotARepository path)
+  pub limit : status ≡ 7 → (place : List ℕ) × (number : ℕ) × Refused words old new err (Limit place number)
   pub not_built : status ≡ 9 → (place : List ℕ) × Refused words old new err (NotBuilt place)
   pub files : new.files ≡ old.files
   pub tree_later : old.tree_faults ≤ new.tree_faults

@@ -8,18 +8,18 @@ ghost use Rattle.std.specs.Option.{option_map_or};
 ghost use Rattle.gv_report.specs.Emitted.{reports_text};
 ghost use Rattle.gv_visible.specs.Told.{level_of, pkgs_of, profile_of, test_of};
 ghost use Rattle.gvis.specs.Cases.{case_at, cases_at, cases_in};
-ghost use Rattle.gvis.specs.Causes.{IsWide};
+ghost use Rattle.gvis.specs.Causes.{IsUntried};
 ghost use Rattle.gvis.specs.Judged.{MayJudge};
 ghost use Rattle.gvis.specs.Pairs.{paired};
-ghost use Rattle.gvis.specs.RepoReports.{case_reports, first_wide, reports, scan_text, with_report};
+ghost use Rattle.gvis.specs.RepoReports.{case_reports, first_untried, reports, scan_text, with_report};
 
 use crate::judged::Judged;
 use crate::reporting::add_case_reports;
-use crate::wide::{first_wide, is_judged_at};
-use crate::{Bodies, Repo};
+use crate::untried::{first_untried, is_judged_at};
 use gv_base::{NoMemory, Text};
 use gv_entry::Body;
 use gv_facts::{Level, Pkg, Profile};
+use gv_load::{Bodies, Repo};
 use gv_report::{Reports, ordered};
 use gv_visible::{Candidates, PkgIndex, visible};
 use std::alloc::Global;
@@ -27,8 +27,9 @@ use std::alloc::Global;
 /// Why a repository wasn't judged.
 #[derive(Drop)]
 pub enum JudgeFault {
-    /// A query has more than 12 flags; CATEGORY/PF of the first such query's package.
-    Wide { place: Text },
+    /// A query isn't tried: its class asks for USE flags of other packages, or it has more than 12 flags. CATEGORY/PF of
+    /// the first such query's package.
+    Untried { place: Text },
     NoMemory,
 }
 
@@ -153,15 +154,15 @@ fn lines_of(alloc: Global, reports: &Reports) -> Result<Text, NoMemory>
     Ok(text)
 }
 
-/// The lines of the reports of a repository, in their order. It is judged only where no query has more than 12 flags.
+/// The lines of the reports of a repository, in their order. It is judged only where each query is tried.
 /// Packages are numbered by 32 bits, and more of them find no memory.
 pub fn report_text(alloc: Global, repo: &Repo) -> Result<Text, JudgeFault>
     ensures text { IfOk result (λ text. text ≡ scan_text repo.now) }
-    ensures narrow { IfOk result (λ text. first_wide repo.now ≡ None) }
-    ensures wide { IfErr result (IsWide repo.now) }
+    ensures tried { IfOk result (λ text. first_untried repo.now ≡ None) }
+    ensures untried { IfErr result (IsUntried repo.now) }
 {
-    if let Some(place) = first_wide(alloc, repo)? {
-        return Err(JudgeFault::Wide { place });
+    if let Some(place) = first_untried(alloc, repo)? {
+        return Err(JudgeFault::Untried { place });
     }
     if repo.pkgs.items().len() > u32::MAX as usize {
         return Err(JudgeFault::NoMemory);

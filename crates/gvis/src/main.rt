@@ -4,29 +4,21 @@
 ghost use Rattle.std.specs.Prelude.{◌≡◌};
 
 mod assignment;
+#[cfg(test)]
+mod atom_tests;
 mod classes;
-mod directories;
-mod entries;
-mod faults;
 mod holds;
 mod items;
 mod judged;
 mod judging;
-mod layout;
 mod least;
-mod loading;
 mod meeting;
 mod output;
-mod pf;
-mod profile_files;
-mod profiles;
 mod queries;
-mod reader;
 mod real;
 mod refusal;
 #[cfg(test)]
 mod refusal_tests;
-mod repo;
 #[cfg(test)]
 mod report_tests;
 mod reporting;
@@ -36,17 +28,14 @@ mod run_script;
 mod running;
 mod scanning;
 mod telling;
+mod untried;
 mod use_asked;
-mod wide;
 mod words;
 
-pub use faults::LoadFault;
 use gv_base::{Ledger, NoMemory, Steps, Text, Texts};
 pub use judging::{JudgeFault, report_text};
-pub use loading::load;
 use real::{FsStore, FsTree, StdSink, StdSource};
 pub use refusal::Refusal;
-pub use repo::{Bodies, Member, Members, Repo};
 pub use running::run;
 use std::alloc::Global;
 use std::env;

@@ -11,10 +11,11 @@ ghost use Rattle.gv_expr.specs.Req.{reqs};
 ghost use Rattle.gv_entry.specs.Allowed.{is_free, parent_state};
 ghost use Rattle.gvis.specs.Judged.{case_of, parent_of};
 ghost use Rattle.gv_entry.specs.Queries.{class_flags};
-ghost use Rattle.gvis.specs.Queries.{class_of, has_query, has_wide, is_wide, required_of};
+ghost use Rattle.gvis.specs.Queries.{class_of, has_query, has_untried, is_untried, required_of};
 
 use crate::classes::classes;
 use crate::judged::Judged;
+use crate::use_asked::asks_use;
 use gv_base::{NoMemory, Text, Texts, in_order_law};
 use gv_entry::class_in;
 use gv_expr::{DepExpr, UseExpr, mentioned_dep, mentioned_required};
@@ -101,30 +102,33 @@ fn free_flags(alloc: Global, judged: &Judged<'_>, mentioned: &Texts) -> Result<T
     Ok(flags)
 }
 
-fn is_wide(alloc: Global, judged: &Judged<'_>, class: Class) -> Result<bool, NoMemory>
-    ensures { IfOk result (λ wide. wide ≡ is_wide (case_of judged.now) class) }
+fn is_untried(alloc: Global, judged: &Judged<'_>, class: Class) -> Result<bool, NoMemory>
+    ensures { IfOk result (λ untried. untried ≡ is_untried (case_of judged.now) class) }
 {
     let Some(query) = query_of(judged, class) else {
         return Ok(false);
     };
+    if asks_use(query.class) {
+        return Ok(true);
+    }
     let flags = flags_of(alloc, judged, &query)?;
     Ok(flags.items().len() > MOST_FLAGS)
 }
 
-fn some_wide(alloc: Global, judged: &Judged<'_>, classes: &[Class]) -> Result<bool, NoMemory>
-    ensures { IfOk result (λ wide. wide ≡ list_any (is_wide (case_of judged.now)) classes.now) }
+fn some_untried(alloc: Global, judged: &Judged<'_>, classes: &[Class]) -> Result<bool, NoMemory>
+    ensures { IfOk result (λ untried. untried ≡ list_any (is_untried (case_of judged.now)) classes.now) }
 {
     for class in classes {
-        if is_wide(alloc, judged, *class)? {
+        if is_untried(alloc, judged, *class)? {
             return Ok(true);
         }
     }
     Ok(false)
 }
 
-/// Whether a query has too many flags to try all their assignments.
-pub fn has_wide(alloc: Global, judged: &Judged<'_>) -> Result<bool, NoMemory>
-    ensures { IfOk result (λ wide. wide ≡ has_wide (case_of judged.now)) }
+/// Whether a query isn't tried: its class asks for USE flags of other packages, or it has too many flags.
+pub fn has_untried(alloc: Global, judged: &Judged<'_>) -> Result<bool, NoMemory>
+    ensures { IfOk result (λ untried. untried ≡ has_untried (case_of judged.now)) }
 {
-    some_wide(alloc, judged, &classes())
+    some_untried(alloc, judged, &classes())
 }

@@ -13,6 +13,8 @@ pub enum Refusal {
     NoMemory,
     /// The path has to be a file, and isn't.
     NotARepository { path: Text },
-    /// What stands at this path, or a question on this package, is beyond what is answered today.
+    /// A limit, with its number, is passed at a place.
+    Limit { place: Text, number: u64 },
+    /// A question on this package is beyond what is answered today.
     NotBuilt { place: Text },
 }

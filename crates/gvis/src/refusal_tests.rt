@@ -1,7 +1,9 @@
-//! Runs that end without an answer: what isn't built, what is no repository, bad words, faults of the tree.
-use crate::run_script::{append, begin, expect, perform, put};
+//! Runs that end without an answer: what isn't built, what is no repository, limits, bad words, faults of the tree.
+use crate::run_script::{Script, append, begin, expect, perform, put, text};
+use std::alloc::Global;
+use std::process::Abort;
 
-// What is no repository, and each condition of what isn't built.
+// What is no repository, and each query that isn't tried.
 fn refusals() -> &'static [u8] {
     b"# no profiles.desc\n\
 new\n\
@@ -16,36 +18,6 @@ new\n\
 @profiles/categories/x\n\
 ! gvis: not a repository: profiles/categories\n\
 = 6\n\
-# a parent\n\
-new\n\
-@profiles/profiles.desc\n\
-|amd64 base stable\n\
-@profiles/categories\n\
-|app\n\
-|x\n\
-@profiles/base/eapi\n\
-|8\n\
-@profiles/base/parent\n\
-|../top\n\
-! gvis: not built: profiles/base/parent\n\
-= 9\n\
-# package.mask before the parent\n\
-@profiles/package.mask\n\
-! gvis: not built: profiles/package.mask\n\
-= 9\n\
-# use.mask is a folder\n\
-new\n\
-@profiles/profiles.desc\n\
-|amd64 base stable\n\
-@profiles/categories\n\
-|app\n\
-|x\n\
-@profiles/base/eapi\n\
-|8\n\
-@profiles/base/use.mask/all\n\
-|a\n\
-! gvis: not built: profiles/base/use.mask\n\
-= 9\n\
 # an atom asks for a flag\n\
 new\n\
 @profiles/profiles.desc\n\
@@ -55,26 +27,34 @@ new\n\
 |x\n\
 @profiles/base/eapi\n\
 |8\n\
-@metadata/md5-cache/app/p-1\n\
+%app p 1\n\
 |EAPI=8\n\
 |SLOT=0\n\
 |KEYWORDS=amd64\n\
 |RDEPEND=|| ( a? ( x/y[b] ) )\n\
-! gvis: not built: metadata/md5-cache/app/p-1\n\
+! gvis: not built: app/p-1\n\
 = 9\n\
-# an earlier entry asks for one\n\
-@metadata/md5-cache/app/p-0.9\n\
+# an earlier one has a broken REQUIRED_USE\n\
+%app p 0.9\n\
 |EAPI=8\n\
 |SLOT=0\n\
 |KEYWORDS=amd64\n\
 |REQUIRED_USE=(\n\
 |IDEPEND=x/y[b(+)]\n\
-! gvis: not built: metadata/md5-cache/app/p-0.9\n\
+! gvis: not built: app/p-1\n\
 = 9\n\
-# a parent comes before entries\n\
-@profiles/base/parent\n\
-! gvis: not built: profiles/base/parent\n\
+# an earlier one asks for a flag\n\
+%app p 0.9\n\
+|EAPI=8\n\
+|SLOT=0\n\
+|KEYWORDS=~amd64\n\
+|IDEPEND=x/y[b(+)]\n\
+! gvis: not built: app/p-0.9\n\
 = 9\n\
+# none of them is judged\n\
+@profiles/package.mask\n\
+|<=app/p-1\n\
+= 0\n\
 # names that are no PF, and broken classes\n\
 new\n\
 @profiles/profiles.desc\n\
@@ -89,7 +69,7 @@ new\n\
 @metadata/md5-cache/app/q/x-1\n\
 @metadata/md5-cache/app/p-1-2\n\
 |EAPI=8\n\
-@metadata/md5-cache/app/p-1\n\
+%app p 1\n\
 |EAPI=6\n\
 |SLOT=0\n\
 |KEYWORDS=amd64\n\
@@ -113,7 +93,7 @@ new\n\
 |x\n\
 @profiles/base/eapi\n\
 |8\n\
-@metadata/md5-cache/app/p-1\n\
+%app p 1\n\
 |EAPI=8\n\
 |SLOT=0\n\
 |KEYWORDS=amd64\n\
@@ -123,7 +103,7 @@ new\n\
 ! gvis: not built: app/p-1\n\
 = 9\n\
 # a broken REQUIRED_USE\n\
-@metadata/md5-cache/app/p-1\n\
+%app p 1\n\
 |EAPI=8\n\
 |SLOT=0\n\
 |KEYWORDS=amd64\n\
@@ -132,7 +112,7 @@ new\n\
 |RDEPEND=g? ( ) h? ( ) i? ( ) j? ( ) k? ( ) l? ( ) !m? ( )\n\
 = 0\n\
 # a broken class\n\
-@metadata/md5-cache/app/p-1\n\
+%app p 1\n\
 |EAPI=8\n\
 |SLOT=0\n\
 |KEYWORDS=amd64\n\
@@ -141,7 +121,7 @@ new\n\
 |RDEPEND=g? ( ) h? ( ) i? ( ) j? ( ) k? ( ) l? ( ) !m? (\n\
 = 0\n\
 # an EAPI that isn't known\n\
-@metadata/md5-cache/app/p-1\n\
+%app p 1\n\
 |EAPI=8\n\
 |SLOT=0\n\
 |KEYWORDS=amd64\n\
@@ -150,6 +130,88 @@ new\n\
 @profiles/base/eapi\n\
 |9\n\
 = 0\n"
+}
+
+// A profile with this path word.
+fn put_line<R: Abort>(rt: &R, alloc: Global, script: &mut Script, word: &[u8]) {
+    let mut line = text(rt, alloc, b"amd64 ");
+    append(rt, &mut line, word);
+    append(rt, &mut line, b" stable\n");
+    put(
+        rt,
+        &mut script.files,
+        b"profiles/profiles.desc",
+        line.bytes(),
+    );
+}
+
+// Directories that name the next one twice, and stacks of them.
+fn stacks() -> &'static [u8] {
+    b"# 8,191 visits\n\
+new\n\
+@profiles/profiles.desc\n\
+|amd64 d0 stable\n\
+@profiles/categories\n\
+@profiles/d0/parent\n\
+|../d1\n\
+|../d1\n\
+@profiles/d1/parent\n\
+|../d2\n\
+|../d2\n\
+@profiles/d2/parent\n\
+|../d3\n\
+|../d3\n\
+@profiles/d3/parent\n\
+|../d4\n\
+|../d4\n\
+@profiles/d4/parent\n\
+|../d5\n\
+|../d5\n\
+@profiles/d5/parent\n\
+|../d6\n\
+|../d6\n\
+@profiles/d6/parent\n\
+|../d7\n\
+|../d7\n\
+@profiles/d7/parent\n\
+|../d8\n\
+|../d8\n\
+@profiles/d8/parent\n\
+|../d9\n\
+|../d9\n\
+@profiles/d9/parent\n\
+|../d10\n\
+|../d10\n\
+@profiles/d10/parent\n\
+|../d11\n\
+|../d11\n\
+@profiles/d11/parent\n\
+|../d12\n\
+|../d12\n\
+@profiles/d12/eapi\n\
+|8\n\
+! gvis: limit: profiles/d0 4096\n\
+= 7\n\
+# 4,095 visits\n\
+@profiles/profiles.desc\n\
+|amd64 d1 stable\n\
+= 0\n\
+# 4,096 visits\n\
+@profiles/e/eapi\n\
+|8\n\
+@profiles/d1/parent\n\
+|../d2\n\
+|../d2\n\
+|../e\n\
+= 0\n\
+# 4,097 visits\n\
+@profiles/d1/parent\n\
+|../d2\n\
+|../d2\n\
+|../e\n\
+|../e\n\
+! gvis: limit: profiles/d1 4096\n\
+= 7\n"
 }
 
 // Words of another form.
@@ -162,7 +224,7 @@ fn wordlists() -> &'static [u8] {
 |x\n\
 @profiles/base/eapi\n\
 |8\n\
-@metadata/md5-cache/app/p-1\n\
+%app p 1\n\
 |EAPI=8\n\
 |SLOT=0\n\
 |KEYWORDS=amd64\n\
@@ -224,13 +286,13 @@ fn faults() -> &'static [u8] {
 |8\n\
 @profiles/base/use.mask\n\
 |a\n\
-@metadata/md5-cache/app/p-1\n\
+%app p 1\n\
 |EAPI=8\n\
 |SLOT=0\n\
 |KEYWORDS=amd64\n\
 |IUSE=a\n\
 |RDEPEND=a? ( x/y )\n\
-@metadata/md5-cache/x/y-1\n\
+%x y 1\n\
 |EAPI=8\n\
 |SLOT=0\n\
 |KEYWORDS=~amd64\n\
@@ -286,21 +348,39 @@ t 17\n\
 ! gvis: fault: tree metadata/md5-cache/app\n\
 = 3\n\
 t 18\n\
-! gvis: fault: tree metadata/md5-cache/app/p-1\n\
+! gvis: fault: tree app\n\
 = 3\n\
 t 19\n\
-! gvis: fault: tree metadata/md5-cache/x\n\
+! gvis: fault: tree app/p\n\
 = 3\n\
 t 20\n\
-! gvis: fault: tree metadata/md5-cache/x/y-1\n\
+! gvis: fault: tree metadata/md5-cache/app/p-1\n\
 = 3\n\
 t 21\n\
+! gvis: fault: tree app/p/p-1.ebuild\n\
+= 3\n\
+t 22\n\
+! gvis: fault: tree metadata/md5-cache/x\n\
+= 3\n\
+t 23\n\
+! gvis: fault: tree x\n\
+= 3\n\
+t 24\n\
+! gvis: fault: tree x/y\n\
+= 3\n\
+t 25\n\
+! gvis: fault: tree metadata/md5-cache/x/y-1\n\
+= 3\n\
+t 26\n\
+! gvis: fault: tree x/y/y-1.ebuild\n\
+= 3\n\
+t 27\n\
 = 0\n"
 }
 
 #[test]
 fn refuses_at_the_first_place(rt: HostRuntime) {
-    perform(&rt, rt.alloc(), refusals(), 15);
+    perform(&rt, rt.alloc(), refusals(), 13);
 }
 
 #[test]
@@ -310,28 +390,39 @@ fn refuses_words_of_another_form(rt: HostRuntime) {
 
 #[test]
 fn names_the_call_of_the_tree_that_failed(rt: HostRuntime) {
-    perform(&rt, rt.alloc(), faults(), 21);
+    perform(&rt, rt.alloc(), faults(), 27);
 }
 
-// A file of one byte more than is read, and one of just as many.
 #[test]
-fn refuses_a_file_that_is_too_large(rt: HostRuntime) {
+fn refuses_a_stack_of_too_many_visits(rt: HostRuntime) {
+    perform(&rt, rt.alloc(), stacks(), 4);
+}
+
+// A file of one byte more than is read, and one of just as many; a path of one byte more, and one of just as many.
+#[test]
+fn refuses_what_is_too_large_or_too_long(rt: HostRuntime) {
     let alloc = rt.alloc();
     let large = vec![in alloc; b'#'; 16_777_217].expect(&rt, "memory");
     let mut script = begin(&rt, alloc);
-    put(
-        &rt,
-        &mut script.files,
-        b"profiles/profiles.desc",
-        b"amd64 base stable\n",
-    );
+    put(&rt, &mut script.files, b"profiles/profiles.desc", b"");
     put(&rt, &mut script.files, b"profiles/categories", &large[1..]);
     expect(&rt, alloc, &script, 0);
     put(&rt, &mut script.files, b"profiles/categories", &large);
     append(
         &rt,
         &mut script.err,
-        b"gvis: not built: profiles/categories\n",
+        b"gvis: limit: profiles/categories 16777216\n",
     );
-    expect(&rt, alloc, &script, 9);
+    expect(&rt, alloc, &script, 7);
+    put(&rt, &mut script.files, b"profiles/categories", b"");
+    let word = vec![in alloc; b'a'; 4087].expect(&rt, "memory");
+    script.err = text(&rt, alloc, b"");
+    put_line(&rt, alloc, &mut script, &word);
+    expect(&rt, alloc, &script, 0);
+    let word = vec![in alloc; b'a'; 4088].expect(&rt, "memory");
+    append(&rt, &mut script.err, b"gvis: limit: profiles/");
+    append(&rt, &mut script.err, &word);
+    append(&rt, &mut script.err, b" 4096\n");
+    put_line(&rt, alloc, &mut script, &word);
+    expect(&rt, alloc, &script, 7);
 }

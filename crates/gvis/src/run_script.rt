@@ -12,7 +12,9 @@ use std::process::Abort;
 use std::sync::ledger::Blank;
 
 // What the lines before a run say. `# NAME` names the runs behind it, and is printed where one goes wrong. `@PATH` begins
-// a file and each `|` behind it is a line of it; `new` takes all files away. `$` has the words, with one space between; without it they are `scan R --certs C`. `m`, `t`, `o` and
+// a file and each `|` behind it is a line of it; `%CATEGORY NAME VERSION` begins an entry with the digest of its ebuild,
+// which is empty; `new` takes all files away. `$` has the words, with one space between; without it they are
+// `scan R --certs C`. `m`, `t`, `o` and
 // `e` give the bytes that a sink takes in a call and the numbers of the calls that fail. `>` is a line that stands on
 // out and `!` one on err; `~` at its end says that it has no line feed. `= STATUS` runs, and forgets all
 // but the files.
@@ -110,6 +112,47 @@ pub(crate) fn begin_file<R: Abort>(rt: &R, alloc: Global, script: &mut Script, p
     put(rt, &mut script.files, path, b"");
 }
 
+// A path of parts.
+fn path_of<R: Abort>(rt: &R, alloc: Global, parts: &[&[u8]]) -> Text {
+    let mut path = text(rt, alloc, b"");
+    for part in parts {
+        append(rt, &mut path, part);
+    }
+    path
+}
+
+/// Begins the entry of a package whose ebuild is empty.
+pub(crate) fn begin_entry<R: Abort>(
+    rt: &R,
+    alloc: Global,
+    script: &mut Script,
+    category: &[u8],
+    name: &[u8],
+    version: &[u8],
+) {
+    let ebuild = path_of(
+        rt,
+        alloc,
+        &[category, b"/", name, b"/", name, b"-", version, b".ebuild"],
+    );
+    put(rt, &mut script.files, ebuild.bytes(), b"");
+    let entry = path_of(
+        rt,
+        alloc,
+        &[b"metadata/md5-cache/", category, b"/", name, b"-", version],
+    );
+    begin_file(rt, alloc, script, entry.bytes());
+    add_line(rt, alloc, script, b"_md5_=d41d8cd98f00b204e9800998ecf8427e");
+}
+
+fn begin_entry_of<R: Abort>(rt: &R, alloc: Global, script: &mut Script, words: &[u8]) {
+    let mut rest = Some(words);
+    let category = next_piece(&mut rest, Cut::Words).unwrap_or(b"".as_slice());
+    let name = next_piece(&mut rest, Cut::Words).unwrap_or(b"".as_slice());
+    let version = next_piece(&mut rest, Cut::Words).unwrap_or(b"".as_slice());
+    begin_entry(rt, alloc, script, category, name, version);
+}
+
 fn add_output<R: Abort>(rt: &R, text: &mut Text, line: &[u8]) {
     match line {
         [front @ .., b'~'] => append(rt, text, front),
@@ -125,6 +168,7 @@ fn take<R: Abort>(rt: &R, alloc: Global, script: &mut Script, line: &[u8]) {
     match line {
         [b'#', b' ', rest @ ..] => script.name = text(rt, alloc, rest),
         [b'@', path @ ..] => begin_file(rt, alloc, script, path),
+        [b'%', words @ ..] => begin_entry_of(rt, alloc, script, words),
         [b'|', rest @ ..] => add_line(rt, alloc, script, rest),
         [b'$', b' ', rest @ ..] => script.words = text(rt, alloc, rest),
         [b'>', b' ', rest @ ..] => add_output(rt, &mut script.out, rest),

@@ -2,7 +2,7 @@
 ghost use Rattle.std.specs.Prelude.{◌≡◌, ◌⊎◌, true, false, IfSome};
 ghost use Rattle.gv_base.specs.Causes.{Rose};
 ghost use Rattle.gvis.specs.Endings.{told};
-ghost use Rattle.gvis.specs.Look.{look_of};
+ghost use Rattle.gv_load.specs.Look.{look_of};
 ghost use Rattle.gvis.specs.Run.{world, Leaves};
 ghost use Rattle.gvis.specs.Scan.{scan_of, said_by};
 ghost use Rattle.gvis.specs.Words.{is_scan};
@@ -16,8 +16,8 @@ use std::alloc::Global;
 ///
 /// `words` are the command's words without the program's name: `scan ROOT --certs FILE`. The lines of the reports go to
 /// `out`, and the line of a refusal goes to `err`. The statuses are 0 (no reports), 1 (reports), 2 (bad command line),
-/// 3 (the tree or the output failed), 5 (out of memory), 6 (not a repository), 9 (not built). Store, input and steps are
-/// not touched.
+/// 3 (the tree or the output failed), 5 (out of memory), 6 (not a repository), 7 (a limit is passed), 9 (not built).
+/// Store, input and steps are not touched.
 pub fn run<T: Tree, K: Store, I: Source, S: Sink, E: Sink, L: Ledger>(
     alloc: Global,
     words: &Texts,

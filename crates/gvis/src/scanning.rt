@@ -1,19 +1,20 @@
 //! A scan: reads a repository, judges it and writes the reports. Nothing is written before all is judged.
 ghost use Rattle.std.specs.Prelude.{◌≡◌, ◌≤◌, Ok, IfOk, IfErr, OnOk, OnErr};
 ghost use Rattle.gv_base.specs.Outside.{gains};
-ghost use Rattle.gvis.specs.RepoReports.{scan_text, first_wide};
+ghost use Rattle.gvis.specs.RepoReports.{scan_text, first_untried};
 ghost use Rattle.gvis.specs.Endings.{GainsFront};
 ghost use Rattle.gvis.specs.Run.{world, Scans};
 ghost use Rattle.gvis.specs.Scan.{IsText};
-ghost use Rattle.gvis.specs.ScanSteps.{IsLoaded, ReadCause, WideCause, WriteCause, ScansRoot};
+ghost use Rattle.gvis.specs.ScanSteps.{IsLoaded, ReadCause, UntriedCause, WriteCause, ScansRoot};
 
 use crate::output::put_all;
 use crate::words::root_of;
-use crate::{JudgeFault, LoadFault, Refusal, Repo, load, report_text};
+use crate::{JudgeFault, Refusal, report_text};
 use gv_base::{Sink, SinkFault, Text, Texts, Tree};
+use gv_load::{LoadFault, Repo, load};
 use std::alloc::Global;
 
-#[tactic(auto, using(crate::proofs::Scanned::loaded, crate::proofs::Scanned::is_refused))]
+#[tactic(auto, using(crate::proofs::Scanned::no_repository, crate::proofs::Scanned::past_limit))]
 fn read<T: Tree>(alloc: Global, tree: &mut T) -> Result<Repo, Refusal>
     ensures repo { IfOk result (IsLoaded (T.files tree.old)) }
     ensures cause { IfErr result (ReadCause (T.files tree.old) (T.faults tree.old) (T.faults tree.new)) }
@@ -26,25 +27,25 @@ fn read<T: Tree>(alloc: Global, tree: &mut T) -> Result<Repo, Refusal>
         Ok(repo) => Ok(repo),
         Err(LoadFault::Tree { path }) => Err(Refusal::TreeFailed { path }),
         Err(LoadFault::NotARepository { path }) => Err(Refusal::NotARepository { path }),
-        Err(LoadFault::NotBuilt { place }) => Err(Refusal::NotBuilt { place }),
+        Err(LoadFault::Limit { place, number }) => Err(Refusal::Limit { place, number }),
         Err(LoadFault::NoMemory) => Err(Refusal::NoMemory),
     }
 }
 
 fn judge(alloc: Global, repo: &Repo) -> Result<Text, Refusal>
     ensures text { IfOk result (λ text. text ≡ scan_text repo.now) }
-    ensures narrow { OnOk result (first_wide repo.now ≡ None) }
-    ensures cause { IfErr result (WideCause repo.now) }
+    ensures tried { OnOk result (first_untried repo.now ≡ None) }
+    ensures cause { IfErr result (UntriedCause repo.now) }
 {
     match report_text(alloc, repo) {
         Ok(text) => Ok(text),
-        Err(JudgeFault::Wide { place }) => Err(Refusal::NotBuilt { place }),
+        Err(JudgeFault::Untried { place }) => Err(Refusal::NotBuilt { place }),
         Err(JudgeFault::NoMemory) => Err(Refusal::NoMemory),
     }
 }
 
 // The text of the reports.
-#[tactic(auto, using(crate::proofs::Scanned::is_text, crate::proofs::Scanned::is_wide))]
+#[tactic(auto, using(crate::proofs::Scanned::is_text, crate::proofs::Scanned::is_untried))]
 fn report<T: Tree>(alloc: Global, tree: &mut T) -> Result<Text, Refusal>
     ensures text { IfOk result (IsText (T.files tree.old)) }
     ensures cause { IfErr result (ReadCause (T.files tree.old) (T.faults tree.old) (T.faults tree.new)) }

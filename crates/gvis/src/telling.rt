@@ -1,5 +1,5 @@
 //! The line and the status of a run's end.
-ghost use Rattle.std.specs.Prelude.{◌≡◌, ◌≤◌, ◌++◌, IfOk, IfErr, OnOk};
+ghost use Rattle.std.specs.Prelude.{◌≡◌, ◌≤◌, ◌++◌, codes, decimal, IfOk, IfErr, OnOk};
 ghost use Rattle.gvis.specs.Endings.{told, well_status, refusal_status, refusal_line, refusal_text, SaysNothing, TellsRefusal};
 
 use crate::Refusal;
@@ -44,6 +44,7 @@ fn status(refusal: &Refusal) -> u8
         Refusal::OutputFailed => 3,
         Refusal::NoMemory => 5,
         Refusal::NotARepository { .. } => 6,
+        Refusal::Limit { .. } => 7,
         Refusal::NotBuilt { .. } => 9,
     }
 }
@@ -52,12 +53,12 @@ fn line(alloc: Global, refusal: &Refusal) -> Result<Text, NoMemory>
     ensures { IfOk result (λ line. line ≡ refusal_line refusal.now) }
 {
     let mut line = Text::of(alloc, &[])?;
-    append_refusal(&mut line, refusal)?;
+    append_refusal(alloc, &mut line, refusal)?;
     line.append(b"\n")?;
     Ok(line)
 }
 
-fn append_refusal(line: &mut Text, refusal: &Refusal) -> Result<(), NoMemory>
+fn append_refusal(alloc: Global, line: &mut Text, refusal: &Refusal) -> Result<(), NoMemory>
     ensures { OnOk result (line.new ≡ line.old ++ refusal_text refusal.now) }
 {
     match refusal {
@@ -66,6 +67,7 @@ fn append_refusal(line: &mut Text, refusal: &Refusal) -> Result<(), NoMemory>
         Refusal::OutputFailed => line.append(b"gvis: fault: output"),
         Refusal::NoMemory => line.append(b"gvis: out of memory"),
         Refusal::NotARepository { path } => append_place(line, b"gvis: not a repository: ", path),
+        Refusal::Limit { place, number } => append_limit(alloc, line, place, *number),
         Refusal::NotBuilt { place } => append_place(line, b"gvis: not built: ", place),
     }
 }
@@ -75,4 +77,22 @@ fn append_place(line: &mut Text, head: &[u8], place: &Text) -> Result<(), NoMemo
 {
     line.append(head)?;
     line.append(place.bytes())
+}
+
+// The place of a limit, and its number.
+fn with_number(alloc: Global, place: &Text, number: u64) -> Result<Text, NoMemory>
+    ensures { IfOk result (λ text. text ≡ place.now ++ (codes " " ++ decimal number)) }
+{
+    let digits = number.to_string(alloc)?;
+    let mut text = place.copy(alloc)?;
+    text.append(b" ")?;
+    text.append(digits.as_bytes())?;
+    Ok(text)
+}
+
+fn append_limit(alloc: Global, line: &mut Text, place: &Text, number: u64) -> Result<(), NoMemory>
+    ensures { OnOk result (line.new ≡ line.old ++ (codes "gvis: limit: " ++ (place.now ++ (codes " " ++ decimal number)))) }
+{
+    let numbered = with_number(alloc, place, number)?;
+    append_place(line, b"gvis: limit: ", &numbered)
 }

@@ -1,4 +1,0 @@
-use Rattle.gvis.proofs.entries.read_category.Goals as goal
-
-pub returns-in-Err-clause-cause : goal.returns-in-Err-clause-cause
-returns-in-Err-clause-cause g c = c.in-Err.ensures.cause _

@@ -1,5 +1,0 @@
-use Rattle.gvis.proofs.Readings.{told_found}
-use Rattle.gvis.proofs.reader.fetch.Goals as goal
-
-pub returns-in-Ok-clause-found : goal.returns-in-Ok-clause-found
-returns-in-Ok-clause-found g c = told_found _ c.args.path.now c.in-Ok.found c.in-Ok.ensures.found
