@@ -3,7 +3,7 @@ use Rattle.std.proofs.Common.{◌≡◌, ◌↔◌, ℕ, Bool, true, List, map, 
 use Rattle.std.proofs.lemmas.List.{length-map}
 use Rattle.gv_expr.specs.Dep.{Dep}
 use Rattle.gv_expr.specs.Req.{Req}
-use Rattle.gv_entry.specs.Allowed.{Allowed, Failing, IsFit, Parent}
+use Rattle.gv_entry.specs.Allowed.{IsFit, Parent}
 use Rattle.gv_entry.specs.Laws.{AllowedLaw, FailingLaw}
 use Rattle.gv_entry.specs.Queries.{class_flags, required_flags}
 use Rattle.gv_lower.specs.Laws.{IsRightAllowed, IsRightFailing}

@@ -1,19 +1,19 @@
 -- Values of the definitions on worked examples.
-use Rattle.std.specs.Prelude.{◌≡◌, ℕ, Bool, true, false, List, [], ◌∷◌, ◌++◌, None, Some, Option, option_map, map, codes, refl}
+use Rattle.std.specs.Prelude.{◌≡◌, ℕ, Bool, true, false, List, [], ◌∷◌, ◌++◌, Some, Option, option_map, map, codes, refl}
 use Rattle.gv_atom.specs.AtomRead.{read_atom}
 use Rattle.gv_expr.specs.DepRead.{read_dep}
 use Rattle.gv_expr.specs.ReqRead.{read_required}
 use Rattle.gv_facts.specs.declared.kinds.Eapi.{Eapi}
-use Rattle.gv_facts.specs.declared.kinds.Eapi.TheVariants.{Five, Six, Seven, Eight}
+use Rattle.gv_facts.specs.declared.kinds.Eapi.TheVariants.{Six, Seven, Eight}
 use Rattle.gv_facts.specs.declared.kinds.Level.TheVariants as levels
 use Rattle.gv_facts.specs.declared.kinds.Status.TheVariants as statuses
 use Rattle.gv_facts.specs.declared.pkg.Pkg.{Pkg}
 use Rattle.gv_facts.specs.declared.profile.Profile.{Profile}
 use Rattle.gv_facts.specs.declared.rules.Rule.{Rule}
-use Rattle.gv_facts.specs.declared.rules.Effect.TheVariants.{Force, Mask}
+use Rattle.gv_facts.specs.declared.rules.Effect.TheVariants.{Force}
 use Rattle.gv_entry.specs.Allowed.{Parent}
 use Rattle.gv_logic.specs.Bytes.{number_bytes, circuit_bytes}
-use Rattle.gv_logic.specs.Circuits.{Circuit, at, value, values}
+use Rattle.gv_logic.specs.Circuits.{at, value, values}
 use Rattle.gv_logic.specs.Literals.{lit_true}
 use Rattle.gv_entry.specs.Queries.{class_flags, required_flags}
 use Rattle.gv_lower.specs.QueryGates.{allowed_gates, failing_gates, failing_items}

@@ -1,28 +1,26 @@
 -- The gates of a query are true at the bits of an assignment exactly where it is allowed, or failing.
-use Rattle.std.proofs.Common.{◌≡◌, ◌↔◌, ℕ, zero, suc, ◌+◌, ◌*◌, ◌<◌, ◌≤◌, Bool, true, false, if◌then◌else◌, not, ◌||◌, ◌&&◌, List, [], ◌∷◌, ◌++◌, length, map, refl, sym, subst, ap, ◌∙◌, length-append, arith}
+use Rattle.std.proofs.Common.{◌≡◌, ℕ, suc, ◌+◌, ◌*◌, ◌<◌, ◌≤◌, Bool, true, false, if◌then◌else◌, not, ◌&&◌, List, [], ◌∷◌, ◌++◌, length, map, refl, sym, subst, ap, ◌∙◌, arith}
 use Rattle.std.proofs.Math.Path.{fun_ext}
 use Rattle.std.specs.Str.{bytes_eq}
-use Rattle.gv_expr.specs.Dep as dep
-use Rattle.gv_expr.specs.Dep.{Dep, Deps, deps}
+use Rattle.gv_expr.specs.Dep.{Dep, deps}
 use Rattle.gv_expr.specs.Req.{Req, reqs}
 use Rattle.gv_facts.specs.AtomMet.{atom_met}
-use Rattle.gv_entry.specs.Allowed.{Allowed, Failing, Parent, agrees, assignment, bit_or, class_holds, is_allowed, is_failing, is_forced, parent_state, required_holds}
-use Rattle.gv_entry.specs.Holds.{dep_holds, deps_hold, empty_holds, reqs_hold}
-use Rattle.gv_logic.specs.declared.gates.Op.TheVariants.{And, Or}
+use Rattle.gv_entry.specs.Allowed.{Parent, assignment, bit_or, class_holds, is_allowed, is_failing, is_forced, parent_state, required_holds}
+use Rattle.gv_entry.specs.Holds.{deps_hold, empty_holds, reqs_hold}
+use Rattle.gv_logic.specs.declared.gates.Op.TheVariants.{And}
 use Rattle.gv_logic.specs.Literals.{lit_true}
-use Rattle.gv_logic.specs.Circuits.{AreEarlier, Circuit, Gate, at, value, values, values_from}
-use Rattle.gv_lower.specs.Plans.{Part, Parts, built_on, in_turn}
+use Rattle.gv_logic.specs.Circuits.{AreEarlier, Gate, at, value, values, values_from}
+use Rattle.gv_lower.specs.Plans.{Part, Parts}
 use Rattle.gv_lower.specs.Groups.{all_of}
-use Rattle.gv_lower.specs.TreeGates.{Base, dep_plans, req_plans}
+use Rattle.gv_lower.specs.TreeGates.{Base, req_plans}
 use Rattle.gv_lower.specs.AtomGates.{atom_plan}
-use Rattle.gv_entry.specs.Queries.{class_flags, required_flags}
-use Rattle.gv_lower.specs.QueryGates.{allowed_gates, base_of, class_parts, failing_gates, failing_items, failing_of, failing_parts, false_at, first_gates, input_or, required_part, true_at}
+use Rattle.gv_lower.specs.QueryGates.{allowed_gates, base_of, class_parts, failing_gates, failing_items, false_at, first_gates, input_or, required_part, true_at}
 use Rattle.gv_entry.specs.Allowed.{item_holds}
 use Rattle.gv_lower.proofs.Truth.{all_lits, all_on, and_on, even_lit, odd_lit}
-use Rattle.gv_lower.proofs.Meaning.{MeanEach, Means, Solves, solves_split}
-use Rattle.gv_lower.proofs.TreeMeaning.{class_means, dep_values, deps_all, deps_mean, required_means}
+use Rattle.gv_lower.proofs.Meaning.{Solves, solves_split}
+use Rattle.gv_lower.proofs.TreeMeaning.{dep_values, deps_all, deps_mean, required_means}
 use Rattle.gv_lower.proofs.AtomMeaning.{atom_means}
-use Rattle.gv_lower.proofs.Placing.{BaseBelow, Below, atom_placed_at, below_more, deps_placed, earlier_both, placed_built, placed_gate, reqs_placed}
+use Rattle.gv_lower.proofs.Placing.{BaseBelow, Below, atom_placed_at, deps_placed, earlier_both, placed_built, placed_gate, reqs_placed}
 use Rattle.gv_lower.proofs.Solved.{solved, values_front}
 
 -- A flag's literal among the inputs.

@@ -1,9 +1,8 @@
 -- The plan of an atom, from what its items ask of each flag.
-use Rattle.std.proofs.Common.{◌≡◌, ℕ, Bool, ◌&&◌, if◌then◌else◌, List, [], ◌∷◌, map, filter, refl, sym, ap, ◌∙◌, subst}
+use Rattle.std.proofs.Common.{◌≡◌, ℕ, ◌&&◌, if◌then◌else◌, List, [], ◌∷◌, map, filter, refl, sym, ap, ◌∙◌, subst}
 use Rattle.std.proofs.Math.Path.{fun_ext}
 use Rattle.std.proofs.Math.Bool.{and_comm}
 use Rattle.gv_atom.specs.declared.atom.Atom.{Atom}
-use Rattle.gv_atom.specs.declared.atom.Block.{Block}
 use Rattle.gv_atom.specs.declared.atom.Block.TheVariants.{No}
 use Rattle.gv_atom.specs.declared.items.UseItem.{UseItem}
 use Rattle.gv_atom.specs.UseItems.{is_blocker}
@@ -18,10 +17,10 @@ use Rattle.gv_logic.specs.declared.gates.Op.TheVariants.{Or}
 use Rattle.gv_logic.specs.Circuits.{Draft}
 use Rattle.gv_lower.specs.Around.{parent_of, wanted_plan}
 use Rattle.gv_lower.specs.Asks.{ask_of, ask_plan, asks_of, asks_plan}
-use Rattle.gv_lower.specs.AtomGates.{asked_by, atom_plan, first_named, flag_plan, items_plan, naming}
+use Rattle.gv_lower.specs.AtomGates.{atom_plan, first_named, items_plan}
 use Rattle.gv_lower.specs.Drawn.{Drew}
 use Rattle.gv_lower.specs.Groups.{all_of}
-use Rattle.gv_lower.specs.Plans.{Plan, built_on, gate_over, given}
+use Rattle.gv_lower.specs.Plans.{built_on, gate_over, given}
 use Rattle.gv_lower.specs.TreeGates.{Base}
 use Rattle.gv_lower.specs.declared.asks.FlagAsks.{FlagAsks}
 use Rattle.gv_visible.specs.Shown.{shows}

@@ -1,7 +1,6 @@
 -- Sums that are told up to the last number.
-use Rattle.std.proofs.Common.{◌≡◌, ℕ, suc, ◌+◌, ◌-◌, ◌^◌, ◌<◌, ◌≤◌, Bool, true, false, ◌&&◌, List, [], ◌∷◌, ◌++◌, length, map, drop, filter, drop-cons, get_or, add-one, min, refl, sym, ap, ◌∙◌, subst, length-append, arith}
+use Rattle.std.proofs.Common.{◌≡◌, ℕ, suc, ◌+◌, ◌<◌, Bool, ◌&&◌, List, [], ◌∷◌, ◌++◌, length, drop, filter, drop-cons, get_or, add-one, refl, sym, ap, ◌∙◌, length-append, arith}
 use Rattle.std.specs.Prelude.{sum_by}
-use Rattle.std.proofs.Math.ListN.{drop_of_length-le}
 use Rattle.std.proofs.lemmas.List.Sums.{sum_by-append, sum_by-cons}
 use Rattle.gv_atom.specs.declared.atom.Atom.{Atom}
 use Rattle.gv_atom.specs.declared.atom.Block.{Block}
@@ -21,8 +20,6 @@ use Rattle.gv_expr.specs.ReqView.{req_of}
 use Rattle.gv_expr.specs.declared.required.UseTree.{UseTree}
 use Rattle.gv_expr.specs.declared.token.Token.TheVariants as tokens
 use Rattle.gv_entry.specs.Allowed.{Parent}
-use Rattle.gv_entry.specs.Weight.{atom_weight}
-use Rattle.gv_facts.specs.Places.{is_pkg_of}
 use Rattle.std.proofs.Math.Bool.{and_comm}
 use Rattle.std.proofs.Math.Path.{fun_ext}
 use Rattle.gv_facts.specs.declared.kinds.Level.{Level}
@@ -34,7 +31,7 @@ use Rattle.gv_visible.specs.Told.{Candidates, level_of, pkgs_of, profile_of}
 use Rattle.gv_lower.specs.Around.{parent_of}
 use Rattle.gv_lower.specs.Weights.{capped, class_weight, packages_weight}
 use Rattle.gv_lower.specs.declared.weigh.Counted.{Counted}
-use Rattle.gv_lower.specs.declared.weigh.Counted.TheVariants.{Named, Shown}
+use Rattle.gv_lower.specs.declared.weigh.Counted.TheVariants.{Shown}
 
 -- what is left leads to the same end
 pub record SumsOn (total left whole : ℕ) : Type 0 where

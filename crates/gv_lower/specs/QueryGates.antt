@@ -1,5 +1,5 @@
 -- The gates of a query. Inputs are the query's flags; the first gates are one that is true and one that is false.
-use Rattle.std.specs.Prelude.{ℕ, ◌+◌, ◌*◌, Bool, true, false, if◌then◌else◌, List, [], ◌∷◌, ◌++◌, length}
+use Rattle.std.specs.Prelude.{ℕ, ◌+◌, ◌*◌, false, if◌then◌else◌, List, [], ◌∷◌, ◌++◌, length}
 use Rattle.std.specs.Str.{bytes_eq}
 use Rattle.gv_expr.specs.Dep.{Dep, deps}
 use Rattle.gv_expr.specs.Req.{Req, reqs}
@@ -7,7 +7,6 @@ use Rattle.gv_entry.specs.Allowed.{Parent, parent_state, is_forced}
 use Rattle.gv_entry.specs.Holds.{empty_holds}
 use Rattle.gv_logic.specs.declared.gates.Op.TheVariants.{And, Or}
 use Rattle.gv_logic.specs.Circuits.{Gate, Circuit}
-use Rattle.gv_logic.specs.Literals.{opposite}
 use Rattle.gv_lower.specs.Plans.{Part, Parts, in_turn, built_on}
 use Rattle.gv_lower.specs.Groups.{all_of}
 use Rattle.gv_lower.specs.TreeGates.{Base, dep_plans, req_plans}

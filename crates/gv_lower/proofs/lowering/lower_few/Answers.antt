@@ -1,6 +1,4 @@
-use Rattle.std.proofs.Common.{length, arith}
-use Rattle.gv_expr.specs.Req.{reqs}
-use Rattle.gv_expr.specs.ReqGrammar.{req_tokens}
+use Rattle.std.proofs.Common.{arith}
 use Rattle.gv_lower.specs.Around.{alone}
 use Rattle.gv_lower.proofs.Finishing.{allowed_circuit}
 use Rattle.gv_lower.proofs.lowering.lower_few.Goals as goal

@@ -1,4 +1,3 @@
-use Rattle.std.proofs.Common.{arith}
 use Rattle.gv_entry.specs.Weight.{weight}
 use Rattle.gv_lower.specs.Around.{parent_of}
 use Rattle.gv_lower.specs.Lowered.{IsQuery}

@@ -1,4 +1,4 @@
-use Rattle.std.proofs.Common.{◌≡◌, [], ◌∷◌, ◌++◌, ap, ◌∙◌}
+use Rattle.std.proofs.Common.{[], ◌∷◌, ◌++◌, ap, ◌∙◌}
 use Rattle.gv_expr.specs.Req.{reqs}
 use Rattle.gv_logic.specs.Literals.{opposite}
 use Rattle.gv_lower.specs.ParentFlags.{base_at}

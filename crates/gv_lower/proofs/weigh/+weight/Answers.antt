@@ -1,14 +1,10 @@
-use Rattle.std.proofs.Common.{◌≡◌, ◌+◌, true, [], length, filter, refl, sym, subst, ap, ◌∙◌}
-use Rattle.std.specs.Prelude.{sum_by}
+use Rattle.std.proofs.Common.{◌≡◌, true, [], refl, sym, subst, ap, ◌∙◌}
 use Rattle.gv_expr.specs.Dep as dep
 use Rattle.gv_expr.specs.Dep.{deps}
-use Rattle.gv_expr.specs.DepView.{dep_of, view_of}
-use Rattle.gv_facts.specs.declared.pkg.Pkg.{Pkg}
+use Rattle.gv_expr.specs.DepView.{dep_of}
 use Rattle.gv_lower.specs.Around.{parent_of}
 use Rattle.gv_lower.specs.Weights.{capped, class_weight}
 use Rattle.gv_lower.proofs.Weighing.{all_weight, any_weight, dep_next, leaf_weight, sums_next, when_weight}
-use Rattle.gv_visible.specs.Shown.{shows}
-use Rattle.gv_visible.specs.Told.{level_of, pkgs_of, profile_of}
 use Rattle.gv_lower.proofs.weigh.+weight.Goals as goal
 
 pub class_weight-loop-tree-preserved : goal.class_weight-loop-tree-preserved

@@ -1,4 +1,4 @@
-use Rattle.std.proofs.Common.{◌≡◌, ◌+◌, ◌≤◌, length, sym, subst, arith}
+use Rattle.std.proofs.Common.{◌≡◌, ◌+◌, length, subst, arith}
 use Rattle.gv_expr.specs.Dep.{deps}
 use Rattle.gv_expr.specs.Req.{reqs}
 use Rattle.gv_expr.specs.ReqGrammar.{req_tokens}

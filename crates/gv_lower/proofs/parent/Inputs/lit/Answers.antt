@@ -1,4 +1,4 @@
-use Rattle.std.proofs.Common.{◌≡◌, ℕ, ◌*◌, sym, subst, ◌∙◌}
+use Rattle.std.proofs.Common.{◌≡◌, ◌*◌, sym, subst, ◌∙◌}
 use Rattle.gv_base.specs.Order.{IsAscending}
 use Rattle.gv_lower.specs.QueryGates.{input_or}
 use Rattle.gv_lower.proofs.InputSearch.{input_absent, input_there}
