@@ -108,6 +108,13 @@ impl UseItems {
         Ok(())
     }
 
+    // Lets go of the room that no item takes.
+    pub(crate) fn trim(&mut self)
+        ensures { self.new ≡ self.old }
+    {
+        self.items.shrink_to_fit();
+    }
+
     /// The items, in order.
     pub fn items(&self) -> &[UseItem]
         ensures { result.now ≡ self.now }

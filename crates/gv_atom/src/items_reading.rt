@@ -100,7 +100,10 @@ fn read_texts(alloc: Global, at: usize, inner: &[u8]) -> Result<UseItems, AtomFa
         }
         match behind {
             Some(behind) => rest = behind,
-            None => return Ok(items),
+            None => {
+                items.trim();
+                return Ok(items);
+            }
         }
     }
 }

@@ -95,6 +95,13 @@ impl DepExpr {
         Ok(())
     }
 
+    // Lets go of the room that no top tree takes.
+    fn fit(&mut self)
+        ensures { self.new ≡ self.old }
+    {
+        self.items.shrink_to_fit();
+    }
+
     /// How many groups stand in one another at most.
     pub fn depth(&self) -> u32
         ensures depth { result ≡ depth_of (deps self.now) }
@@ -156,6 +163,10 @@ impl Grammar for DepExpr {
     #[tactic(auto, using(crate::proofs::DepSteps::more_tokens, crate::proofs::DepSteps::more_leaves))]
     fn add_group(&mut self, head: Head, items: DepExpr) -> Result<(), NoMemory> {
         self.add(DepTree::group(head, items))
+    }
+
+    fn trim(&mut self) {
+        self.fit();
     }
 }
 

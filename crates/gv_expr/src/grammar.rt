@@ -89,4 +89,8 @@ pub trait Grammar: Drop {
         ensures tokens { OnOk result (written self.new ≡ written self.old ++ (head_tokens head ++ Open ∷ (written items ++ Close ∷ []))) }
         ensures leaves { OnOk result (are_good self.new ≡ (are_good self.old && are_good items)) }
         ensures err { OnErr result (self.new ≡ self.old) };
+
+    /// Lets go of the room that no tree takes: trees are kept for as long as their package is.
+    fn trim(&mut self)
+        ensures { self.new ≡ self.old };
 }

@@ -108,7 +108,8 @@ impl<E: Grammar> Reader<E> {
         match self.stack.pop() {
             None => Err(StepFault::Fault(ExprKind::Stray)),
             Some(Group { before, head }) => {
-                let items = mem::replace(&mut self.items, before);
+                let mut items = mem::replace(&mut self.items, before);
+                items.trim();
                 self.items.add_group(head, items)?;
                 Ok(())
             }
@@ -155,9 +156,10 @@ impl<E: Grammar> Reader<E> {
         }
         let Reader {
             stack: _,
-            items,
+            mut items,
             head: _,
         } = self;
+        items.trim();
         Some(items)
     }
 }

@@ -104,6 +104,13 @@ impl UseExpr {
         Ok(())
     }
 
+    // Lets go of the room that no top tree takes.
+    fn fit(&mut self)
+        ensures { self.new ≡ self.old }
+    {
+        self.items.shrink_to_fit();
+    }
+
     /// How many groups stand in one another at most.
     pub fn depth(&self) -> u32
         ensures depth { result ≡ depth_of (reqs self.now) }
@@ -164,6 +171,10 @@ impl Grammar for UseExpr {
     #[tactic(auto, using(crate::proofs::ReqSteps::more_tokens, crate::proofs::ReqSteps::more_leaves))]
     fn add_group(&mut self, head: Head, items: UseExpr) -> Result<(), NoMemory> {
         self.add(UseTree::group(head, items))
+    }
+
+    fn trim(&mut self) {
+        self.fit();
     }
 }
 
