@@ -1,3 +1,5 @@
 mod MaskPlaces
 pub mod NameMap
 mod NextPlaces
+mod Placed
+mod Levels

@@ -1,4 +1,4 @@
--- The places of the packages of each category and name, as packages come one by one.
+-- The places of the items of each category and name, as items come one by one.
 use Rattle.std.proofs.Common.{◌≡◌, ℕ, ◌+◌, ◌<◌, Bool, true, false, ◌&&◌, ◌||◌, cond, List, [], ◌∷◌, length, get_or, take, Some, refl, sym, ap, ◌∙◌}
 use Rattle.std.specs.Prelude.{if◌then◌else◌}
 use Rattle.std.specs.Borrow.{Bor}
@@ -11,9 +11,9 @@ use Rattle.std.proofs.lemmas.Bool.{false≢true}
 use Rattle.std.proofs.lemmas.List.Folds.{list_any_more}
 use Rattle.std.proofs.lemmas.Slice.Eq.{bytes_eq-Decides}
 use Rattle.indexmap.specs.IndexMap.{insert_entry}
-use Rattle.gv_facts.specs.declared.pkg.Pkg.{Pkg}
-use Rattle.gv_facts.specs.Places.{is_pkg_of, places_from, places_of}
-use Rattle.gv_visible.specs.PkgIndex.{HasPlaces, Key, is_key, places_at}
+use Rattle.gv_facts.specs.declared.masks.Mask.{Mask}
+use Rattle.gv_facts.specs.Places.{is_mask_of, places_from, places_of}
+use Rattle.gv_visible.specs.ByName.{HasPlaces, Key, is_key, places_at}
 
 abbrev pub key_eq : Key → Key → Bool
 key_eq a b = bytes_eq a.0.now b.0.now && bytes_eq a.1.now b.1.now
@@ -59,31 +59,6 @@ module _ (category name : List ℕ) where
           apart true false not_both = refl
           apart false t not_both = refl
 
--- the map has the places of each category and name of which a package came
-abbrev pub Holds : List (Key × Bor (List ℕ)) → (came pkgs : List Pkg) → Type 0
-Holds entries came pkgs =
-    (category name : List ℕ) → places_at entries category name ≡ (if list_any (is_pkg_of category name) came then places_of (is_pkg_of category name) pkgs else [])
-
-pub one_more : (es fs : List (Key × Bor (List ℕ))) (pkgs : List Pkg) (i : ℕ) (p : Pkg) (key : Key) (places : Bor (List ℕ))
-    → i < length pkgs → p ≡ get_or pkgs i p → key.0.now ≡ p.category → key.1.now ≡ p.name → places.now ≡ places_of (is_pkg_of p.category p.name) pkgs
-    → fs ≡ insert_entry key_eq es key places → Holds es (take i pkgs) pkgs → Holds fs (take (i + 1) pkgs) pkgs
-one_more es fs pkgs i p key places lt is first second all more holds category name =
-    rw (more, inserted category name es key places, first, second, list_any_more (is_pkg_of category name) pkgs i p lt, sym is)
-    (by (is_pkg_of category name p) refl (list_any (is_pkg_of category name) (take i pkgs)) (holds category name))
-  where
-    by : (b : Bool) → is_pkg_of category name p ≡ b → (came : Bool) → places_at es category name ≡ (if came then places_of (is_pkg_of category name) pkgs else [])
-        → option_map_or (λ (ps : Bor (List ℕ)). ps.now) (if b then Some places else lookup (is_key category name) es) [] ≡ (if came || b then places_of (is_pkg_of category name) pkgs else [])
-    by true h came before = all ∙ rw (sym each.0, sym each.1) (either came)
-      where
-        each : (category ≡ p.category) × (name ≡ p.name)
-        each = alike category p.category name p.name h
-
-        either : (s : Bool) → places_of (is_pkg_of category name) pkgs ≡ (if s || true then places_of (is_pkg_of category name) pkgs else [])
-        either true = refl
-        either false = refl
-    by false h true before = before
-    by false h false before = before
-
 none_at : {X : Type 0} (test : X → Bool) (xs : List X) (n : ℕ) → list_any test xs ≡ false → places_from n test xs ≡ []
 none_at test [] n h = refl
 none_at test (x ∷ xs) n h = by (test x) h (none_at test xs (n + 1))
@@ -93,9 +68,50 @@ none_at test (x ∷ xs) n h = by (test x) h (none_at test xs (n + 1))
     by true i later = absurd (false≢true (sym i))
     by false i later = later i
 
-pub all_came : (es : List (Key × Bor (List ℕ))) (pkgs : List Pkg) → Holds es pkgs pkgs → HasPlaces es pkgs
-all_came es pkgs holds category name = holds category name ∙ by (list_any (is_pkg_of category name) pkgs) refl
+module _ {X : Type 0} (is_of : (category name : List ℕ) → X → Bool) where
+  -- the map has the places of each category and name of which an item came
+  abbrev pub Holds : List (Key × Bor (List ℕ)) → (came items : List X) → Type 0
+  Holds entries came items =
+      (category name : List ℕ) → places_at entries category name ≡ (if list_any (is_of category name) came then places_of (is_of category name) items else [])
+
+  pub one_more : (first second : List ℕ) (es fs : List (Key × Bor (List ℕ))) (items : List X) (i : ℕ) (x : X) (key : Key) (places : Bor (List ℕ))
+      → ((category name : List ℕ) → (bytes_eq category first && bytes_eq name second) ≡ is_of category name x)
+      → i < length items → x ≡ get_or items i x → key.0.now ≡ first → key.1.now ≡ second → places.now ≡ places_of (is_of first second) items
+      → fs ≡ insert_entry key_eq es key places → Holds es (take i items) items → Holds fs (take (i + 1) items) items
+  one_more first second es fs items i x key places keyed lt is at_first at_second all more holds category name =
+      rw (more, inserted category name es key places, at_first, at_second, keyed category name, list_any_more (is_of category name) items i x lt, sym is)
+      (by (is_of category name x) (keyed category name) (list_any (is_of category name) (take i items)) (holds category name))
+    where
+      by : (b : Bool) → (bytes_eq category first && bytes_eq name second) ≡ b → (came : Bool) → places_at es category name ≡ (if came then places_of (is_of category name) items else [])
+          → option_map_or (λ (ps : Bor (List ℕ)). ps.now) (if b then Some places else lookup (is_key category name) es) [] ≡ (if came || b then places_of (is_of category name) items else [])
+      by true h came before = all ∙ rw (sym each.0, sym each.1) (either came)
+        where
+          each : (category ≡ first) × (name ≡ second)
+          each = alike category first name second h
+
+          either : (s : Bool) → places_of (is_of category name) items ≡ (if s || true then places_of (is_of category name) items else [])
+          either true = refl
+          either false = refl
+      by false h true before = before
+      by false h false before = before
+
+  pub all_came : (es : List (Key × Bor (List ℕ))) (items : List X) → Holds es items items → HasPlaces is_of es items
+  all_came es items holds category name = holds category name ∙ by (list_any (is_of category name) items) refl
+    where
+      by : (b : Bool) → list_any (is_of category name) items ≡ b → (if b then places_of (is_of category name) items else []) ≡ places_of (is_of category name) items
+      by true h = refl
+      by false h = sym (none_at (is_of category name) items 0 h)
+
+flipped : (a b : List ℕ) → bytes_eq a b ≡ bytes_eq b a
+flipped a b = two (bytes_eq a b) (bytes_eq b a) (turned a b) (turned b a)
   where
-    by : (b : Bool) → list_any (is_pkg_of category name) pkgs ≡ b → (if b then places_of (is_pkg_of category name) pkgs else []) ≡ places_of (is_pkg_of category name) pkgs
-    by true h = refl
-    by false h = sym (none_at (is_pkg_of category name) pkgs 0 h)
+    turned : (c d : List ℕ) → bytes_eq c d ≡ true → bytes_eq d c ≡ true
+    turned c d h = (bytes_eq-Decides d c).1 (sym (same_text c d (sym h)))
+
+    two : (s t : Bool) → (s ≡ true → t ≡ true) → (t ≡ true → s ≡ true) → s ≡ t
+    two true t f g = sym (f refl)
+    two false true f g = absurd (false≢true (g refl))
+    two false false f g = refl
+
+pub mask_keyed : (m : Mask) (category name : List ℕ) → (bytes_eq category m.atom.category && bytes_eq name m.atom.name) ≡ is_mask_of category name m
+mask_keyed m category name = rw (flipped category m.atom.category, flipped name m.atom.name) refl

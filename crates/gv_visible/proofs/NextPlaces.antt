@@ -15,7 +15,7 @@ use Rattle.gv_facts.specs.declared.profile.Profile.{Profile}
 use Rattle.gv_facts.specs.Places.{is_pkg_of, places_from, places_of}
 use Rattle.gv_visible.specs.Shown.{is_from, shows, shows_at}
 
-front_three : (a b c d : Bool) → ((a && (b && c)) && d) ≡ true → (a && b) ≡ true
+pub front_three : (a b c d : Bool) → ((a && (b && c)) && d) ≡ true → (a && b) ≡ true
 front_three true true c d h = refl
 front_three true false c d h = h
 front_three false b c d h = h

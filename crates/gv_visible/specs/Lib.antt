@@ -1,6 +1,7 @@
+pub mod ByName
 pub mod HeldIndex
+pub mod Kept
 pub mod MasksAt
-pub mod PkgIndex
 pub mod Shown
 pub mod Tells
 pub mod Told

@@ -1,4 +1,4 @@
--- What contracts see of candidates.
+-- What contracts see of candidates, and of the packages that a profile shows.
 use Rattle.std.specs.Prelude.{List}
 use Rattle.gv_facts.specs.declared.kinds.Level.{Level}
 use Rattle.gv_facts.specs.declared.pkg.Pkg.{Pkg}
@@ -22,3 +22,8 @@ level_of c = c.level
 
 abbrev pub test_of : {F : Type 0} → Candidates F → F
 test_of c = c.test
+
+-- packages and the profile at which they are looked at
+pub record VisiblePkgs : Type 0 where
+  pub pkgs : List Pkg
+  pub profile : Profile

@@ -5,7 +5,7 @@ ghost use Rattle.std.specs.List.{find};
 ghost use Rattle.gv_facts.specs.Places.{places_of};
 ghost use Rattle.gv_visible.specs.Shown.{is_from, shows};
 
-use crate::{Candidates, PkgIndex, visible};
+use crate::{Candidates, PkgIndex, VisiblePkgs, visible};
 use gv_atom::Atom;
 use gv_base::NoMemory;
 use gv_facts::{Level, Pkg, Pkgs, Profile};
@@ -40,4 +40,38 @@ pub(crate) fn next_visible_over<'a>(
     let shown = |pkg: &Pkg| visible(pkg, profile, level);
     let candidates = Candidates::over(index, profile, level, shown);
     candidates.next(atom, from)
+}
+
+/// The same where what is visible was asked before.
+pub(crate) fn next_among<'a>(
+    shown: &'a VisiblePkgs<'a>,
+    level: Level,
+    atom: &Atom,
+    from: u32,
+) -> Option<u32>
+    ensures { result ≡ find (is_from from) (places_of (shows shown.now.profile level atom.now) shown.now.pkgs) }
+{
+    let profile = shown.profile();
+    let answer = |pkg: &Pkg| visible(pkg, profile, level);
+    let candidates = Candidates::among(shown, level, answer);
+    candidates.next(atom, from)
+}
+
+/// How many packages have the atom's category and name, and how many of them it matches and are visible.
+pub(crate) fn counts_among<'a>(
+    shown: &'a VisiblePkgs<'a>,
+    level: Level,
+    atom: &Atom,
+) -> (usize, usize) {
+    let profile = shown.profile();
+    let ask = |pkg: &Pkg| visible(pkg, profile, level);
+    let candidates = Candidates::among(shown, level, ask);
+    let places = candidates.places(atom);
+    let mut count: usize = 0;
+    for place in places {
+        if candidates.shown(*place, atom).is_some() {
+            count = count.saturating_add(1);
+        }
+    }
+    (places.len(), count)
 }

@@ -1,15 +1,18 @@
 //! Packages beside a stored test that is known to answer which are visible.
-ghost use Rattle.std.specs.Prelude.{◌≡◌, ◌+◌, [], ◌∷◌, filter, nat_lt, IfOk};
-ghost use Rattle.std.specs.List.{find};
-ghost use Rattle.std.specs.Option.{option_map_or};
+ghost use Rattle.std.specs.Prelude.{◌≡◌, ◌+◌, [], ◌∷◌, Some, filter, map, nat_lt, slice_get, IfOk, IfSome};
+ghost use Rattle.std.specs.List.{filter_map, find};
+ghost use Rattle.std.specs.Option.{option_copied, option_map_or};
 ghost use Rattle.std.specs.List.Sorted.{IsPartitionedBy};
 ghost use Rattle.gv_facts.specs.Places.{is_pkg_of, places_of};
-ghost use Rattle.gv_visible.specs.Shown.{is_from, shows, shows_at};
+ghost use Rattle.gv_facts.specs.Visible.{visible};
+ghost use Rattle.gv_facts.specs.declared.pkg.Pkg.{Pkg};
+ghost use Rattle.gv_visible.specs.Shown.{is_from, shown_at, shows, shows_at};
 ghost use Rattle.gv_visible.specs.Tells.{AnswersVisible};
 ghost use Rattle.gv_visible.specs.Told.{level_of, pkgs_of, profile_of, test_of};
 ghost use Rattle.gv_visible.specs.HeldIndex.{held};
 
 use crate::pkg_index::PkgIndex;
+use crate::visible_pkgs::VisiblePkgs;
 use gv_atom::Atom;
 use gv_base::NoMemory;
 use gv_facts::{Level, Pkg, Pkgs, Profile, matches_pkg};
@@ -55,22 +58,28 @@ impl<'a> HeldIndex<'a> {
 /// Packages, the profile and the level at which they are looked at, and a test of packages.
 ///
 /// That the test may be asked of every package that is a value, and then answers whether the profile shows it at this
-/// level, is told by `new` and `over`, and every call that asks the test requires it.
+/// level, is told by `new`, `over` and `among`, and every call that asks the test requires it.
 #[derive(Drop)]
 pub struct Candidates<'a, F: Fn(&Pkg) -> bool> {
     index: HeldIndex<'a>,
     profile: &'a Profile,
     level: Level,
     test: F,
+    // What is visible, where it was asked of all.
+    kept: Option<&'a [bool]>,
 }
 
 impl<'a, F: Fn(&Pkg) -> bool> Model for Candidates<'a, F> {
+    ghost use Rattle.std.specs.Option.{option_map};
     ghost use Rattle.gv_visible.specs.HeldIndex.{held};
+    ghost use Rattle.gv_visible.specs.Kept.{AreKept};
     ghost use Rattle.gv_visible.specs.Told.{Candidates};
 
     ghost Value = { Candidates F };
 
     ghost view = { λ c. record { pkgs = held c.index; profile = c.profile.now; level = c.level; test = c.test } };
+
+    ghost invariant = { λ c. AreKept (option_map (λ shown. shown.now) c.kept) c.profile.now c.level (held c.index) };
 }
 
 impl<'a, F: Fn(&Pkg) -> bool> Candidates<'a, F> {
@@ -95,6 +104,7 @@ impl<'a, F: Fn(&Pkg) -> bool> Candidates<'a, F> {
             profile,
             level,
             test,
+            kept: None,
         })
     }
 
@@ -117,6 +127,25 @@ impl<'a, F: Fn(&Pkg) -> bool> Candidates<'a, F> {
             profile,
             level,
             test,
+            kept: None,
+        }
+    }
+
+    /// Candidates among packages of which is kept what the profile shows: O(1), without memory. The test, which answers the
+    /// same, isn't called.
+    pub fn among(shown: &'a VisiblePkgs<'a>, level: Level, test: F) -> Candidates<'a, F>
+        requires test { AnswersVisible (F.pre test) (F.post test) shown.now.profile level }
+        ensures pkgs { pkgs_of result ≡ shown.now.pkgs }
+        ensures profile { profile_of result ≡ shown.now.profile }
+        ensures level { level_of result ≡ level }
+        ensures test { AnswersVisible (F.pre (test_of result)) (F.post (test_of result)) (profile_of result) (level_of result) }
+    {
+        Candidates {
+            index: HeldIndex::Shared(shown.index()),
+            profile: shown.profile(),
+            level,
+            test,
+            kept: Some(shown.at(level)),
         }
     }
 
@@ -147,27 +176,59 @@ impl<'a, F: Fn(&Pkg) -> bool> Candidates<'a, F> {
         self.index.at(category, name)
     }
 
-    // Whether the package at this place matches the atom and is visible. The test is asked of what matches alone.
-    fn shows_at(&self, pkgs: &[Pkg], place: u32, atom: &Atom) -> bool
-        requires test { AnswersVisible (F.pre (test_of self.now)) (F.post (test_of self.now)) (profile_of self.now) (level_of self.now) }
-        ensures { result ≡ shows_at (profile_of self.now) (level_of self.now) atom.now pkgs.now place }
+    // What was answered before of the package at this place, if it was asked.
+    fn kept(&self, place: u32) -> Option<bool>
+        ensures { (pkg : Pkg) → slice_get (pkgs_of self.now) place ≡ Some pkg → IfSome result (λ shown. shown ≡ visible pkg (profile_of self.now) (level_of self.now)) }
     {
-        match pkgs.get(place as usize) {
-            Some(pkg) if matches_pkg(atom, pkg) => {
+        match self.kept {
+            Some(kept) => kept.get(place as usize).copied(),
+            None => None,
+        }
+    }
+
+    // Whether the package, which has this place, is visible.
+    fn is_visible(&self, place: u32, pkg: &Pkg) -> bool
+        requires test { AnswersVisible (F.pre (test_of self.now)) (F.post (test_of self.now)) (profile_of self.now) (level_of self.now) }
+        requires place { slice_get (pkgs_of self.now) place ≡ Some pkg.now }
+        ensures { result ≡ visible pkg.now (profile_of self.now) (level_of self.now) }
+    {
+        match self.kept(place) {
+            Some(shown) => shown,
+            None => {
                 pkg.tell();
                 (self.test)(pkg)
             }
+        }
+    }
+
+    /// The package with this number, where the atom matches it and it is visible.
+    pub fn shown(&self, place: u32, atom: &Atom) -> Option<&'a Pkg>
+        requires test { AnswersVisible (F.pre (test_of self.now)) (F.post (test_of self.now)) (profile_of self.now) (level_of self.now) }
+        ensures { option_copied result ≡ shown_at (profile_of self.now) (level_of self.now) atom.now (pkgs_of self.now) place }
+    {
+        match self.pkgs().items().get(place as usize) {
+            Some(pkg) if matches_pkg(atom, pkg) && self.is_visible(place, pkg) => Some(pkg),
+            _ => None,
+        }
+    }
+
+    fn shows_at(&self, place: u32, atom: &Atom) -> bool
+        requires test { AnswersVisible (F.pre (test_of self.now)) (F.post (test_of self.now)) (profile_of self.now) (level_of self.now) }
+        ensures { result ≡ shows_at (profile_of self.now) (level_of self.now) atom.now (pkgs_of self.now) place }
+    {
+        match self.pkgs().items().get(place as usize) {
+            Some(pkg) if matches_pkg(atom, pkg) => self.is_visible(place, pkg),
             _ => false,
         }
     }
 
     // The first of the places at which a package matches and is visible.
-    fn first_shown(&self, pkgs: &[Pkg], places: &[u32], atom: &Atom) -> Option<u32>
+    fn first_shown(&self, places: &[u32], atom: &Atom) -> Option<u32>
         requires test { AnswersVisible (F.pre (test_of self.now)) (F.post (test_of self.now)) (profile_of self.now) (level_of self.now) }
-        ensures { result ≡ find (shows_at (profile_of self.now) (level_of self.now) atom.now pkgs.now) places.now }
+        ensures { result ≡ find (shows_at (profile_of self.now) (level_of self.now) atom.now (pkgs_of self.now)) places.now }
     {
         for place in places {
-            if self.shows_at(pkgs, *place, atom) {
+            if self.shows_at(*place, atom) {
                 return Some(*place);
             }
         }
@@ -183,6 +244,17 @@ impl<'a, F: Fn(&Pkg) -> bool> Candidates<'a, F> {
     {
         let places = self.at(atom.category.bytes(), atom.name.bytes());
         let rest = places_from(places, from);
-        self.first_shown(self.pkgs().items(), rest, atom)
+        self.first_shown(rest, atom)
+    }
+
+    /// The numbers, ascending, of the packages of the atom's category and name: a look-up by hash, without memory.
+    pub fn places(&self, atom: &Atom) -> &[u32]
+        ensures places { result.now ≡ places_of (is_pkg_of atom.now.category atom.now.name) (pkgs_of self.now) }
+        // What stands at them is what was looked for.
+        ensures items { map (slice_get (pkgs_of self.now)) result.now ≡ map Some (filter (is_pkg_of atom.now.category atom.now.name) (pkgs_of self.now)) }
+        // What `shown` gives at them is each visible package that the atom matches.
+        ensures shown { filter_map (shown_at (profile_of self.now) (level_of self.now) atom.now (pkgs_of self.now)) result.now ≡ filter (shows (profile_of self.now) (level_of self.now) atom.now) (pkgs_of self.now) }
+    {
+        self.at(atom.category.bytes(), atom.name.bytes())
     }
 }

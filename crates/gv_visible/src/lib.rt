@@ -1,8 +1,8 @@
 //! Which packages a profile shows (PMS chapters 5 and 7), and the search for those that an atom asks for.
 //!
 //! Stands on the records and definitions of `gv_facts`. The layers above use that `visible` and `judged` equal the
-//! definitions of these names there, and of `Candidates` what `next` finds. They make one `PkgIndex` for all packages, and
-//! candidates over it for each profile and level.
+//! definitions of these names there, and of `Candidates` what `next` finds. They make one `PkgIndex` for all packages,
+//! `VisiblePkgs` over it for each profile, and candidates among these for each level.
 //!
 //! - `visibility`: keywords and masks. O(the package's keywords and the masks of its category and name), besides the
 //!   look-up of these, O(log n) comparisons of names for n names in masks; without memory.
@@ -11,16 +11,22 @@
 //!   much as an index. `next` takes no memory and costs a look-up, a binary search among the packages of the atom's
 //!   category and name, and then for each of those from the given number on, up to the one that it finds, O(bytes of the
 //!   atom), and where it matches O(bytes of the package) and a call of the test.
+//! - `mask_index`: the masks of a profile by category and name, in a hash map.
+//! - `visible_pkgs`: what a profile shows of all packages, asked once.
 //! - `caller`: searches as the layers above make them.
 #![tactic(auto)]
 
 mod caller;
 mod candidates;
+mod mask_index;
 mod pkg_index;
 #[cfg(test)]
 mod tests;
 mod visibility;
+mod visible_pkgs;
 
 pub use candidates::Candidates;
+pub use mask_index::MaskIndex;
 pub use pkg_index::PkgIndex;
 pub use visibility::{judged, visible};
+pub use visible_pkgs::VisiblePkgs;

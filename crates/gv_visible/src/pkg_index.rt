@@ -21,14 +21,15 @@ pub struct PkgIndex<'a> {
 
 impl<'a> Model for PkgIndex<'a> {
     ghost use Rattle.std.specs.Prelude.{List};
+    ghost use Rattle.gv_facts.specs.Places.{is_pkg_of};
     ghost use Rattle.gv_facts.specs.declared.pkg.Pkg.{Pkg};
-    ghost use Rattle.gv_visible.specs.PkgIndex.{HasPlaces};
+    ghost use Rattle.gv_visible.specs.ByName.{HasPlaces};
 
     ghost Value = { List Pkg };
 
     ghost view = { λ l. l.pkgs.now };
 
-    ghost invariant = { λ l. HasPlaces l.places.entries l.pkgs.now };
+    ghost invariant = { λ l. HasPlaces is_pkg_of l.places.entries l.pkgs.now };
 }
 
 impl<'a> PkgIndex<'a> {

@@ -1,7 +1,7 @@
 //! Visible packages, and candidates with their stored test, on records made by hand from PMS chapters 5 and 7. Each line
 //! of a table is one case.
-use crate::caller::{next_visible, next_visible_over};
-use crate::{Candidates, PkgIndex, judged, visible};
+use crate::caller::{counts_among, next_among, next_visible, next_visible_over};
+use crate::{Candidates, MaskIndex, PkgIndex, VisiblePkgs, judged, visible};
 use gv_atom::{Atom, read_atom};
 use gv_base::{Text, Texts, words_of};
 use gv_facts::{Eapi, Level, Mask, Masks, Pkg, Pkgs, Profile, Rules, Status, ValueLists};
@@ -83,11 +83,8 @@ fn level_text(level: Option<Level>) -> &'static str {
     }
 }
 
-fn shown_text(pkg: &Pkg, profile: &Profile) -> &'static str {
-    match (
-        visible(pkg, profile, Level::Stable),
-        visible(pkg, profile, Level::Testing),
-    ) {
+fn shown_text(stable: bool, testing: bool) -> &'static str {
+    match (stable, testing) {
         (true, true) => "both",
         (true, false) => "stable",
         (false, true) => "testing",
@@ -98,11 +95,16 @@ fn shown_text(pkg: &Pkg, profile: &Profile) -> &'static str {
 fn is_judged<R: Abort>(rt: &R, alloc: Global, keywords: &str, masks: &str, want: &str) {
     let pkg = pkg(rt, alloc, "x", "y", "1.2", keywords);
     let profile = profile(rt, alloc, masks);
+    let stable = visible(&pkg, &profile, Level::Stable);
+    let testing = visible(&pkg, &profile, Level::Testing);
     let got = (
-        shown_text(&pkg, &profile),
+        shown_text(stable, testing),
         level_text(judged(&pkg, &profile)),
     );
     assert_eq!(rt; want.split_once(' '), Some(got));
+    let index = MaskIndex::new(alloc, &profile).expect(rt, "memory");
+    assert_eq!(rt; index.visible(&pkg, Level::Stable), stable);
+    assert_eq!(rt; index.visible(&pkg, Level::Testing), testing);
 }
 
 /// Keywords and masks, then at which levels x/y-1.2:0/3 is visible and at which it is judged.
@@ -143,6 +145,18 @@ fn keywords_accept_and_masks_hide(rt: HostRuntime) {
         let (masks, want) = rest.split_once(';').expect(&rt, "masks");
         is_judged(&rt, alloc, keywords, masks, want);
     }
+}
+
+#[test]
+fn a_mask_of_another_category_hides_nothing(rt: HostRuntime) {
+    let alloc = rt.alloc();
+    let profile = profile(&rt, alloc, "z/y,x/z");
+    let index = MaskIndex::new(alloc, &profile).expect(&rt, "memory");
+    let shown = pkg(&rt, alloc, "x", "y", "1", "amd64");
+    let hidden = pkg(&rt, alloc, "z", "y", "1", "amd64");
+    assert!(&rt; index.visible(&shown, Level::Stable));
+    assert!(&rt; !index.visible(&hidden, Level::Stable));
+    assert_eq!(&rt; index.profile().line, 1);
 }
 
 /// Packages in order: category, name, version, keyword.
@@ -196,21 +210,23 @@ x/y:0/3 1 5 4
 x/y:1 0 - -
 !x/y 1 5 4";
 
-// The next number that candidates of their own, and those over the index, find.
+// The next number that candidates of their own, those over the index and those of which is kept what is visible find.
 fn finds<R: Abort>(
     rt: &R,
     alloc: Global,
-    index: &PkgIndex<'_>,
-    profile: &Profile,
+    shown: &VisiblePkgs<'_>,
     level: Level,
     bytes: &str,
     from: u32,
     want: &str,
 ) {
     let atom = atom(rt, alloc, bytes);
+    let index = shown.index();
+    let profile = shown.profile();
     let pkgs = index.pkgs();
     let found = next_visible(alloc, pkgs, profile, level, &atom, from).expect(rt, "memory");
     let found_over = next_visible_over(index, profile, level, &atom, from);
+    assert_eq!(rt; found, next_among(shown, level, &atom, from));
     if want == "-" {
         assert_eq!(rt; found, None);
         assert_eq!(rt; found_over, None);
@@ -221,40 +237,67 @@ fn finds<R: Abort>(
     }
 }
 
+// Each line of the table.
+fn finds_all<R: Abort>(rt: &R, alloc: Global, shown: &VisiblePkgs<'_>) {
+    for line in NEXT.lines() {
+        let mut words = line.split(' ');
+        let atom = words.next().expect(rt, "an atom");
+        let from = words.next().expect(rt, "a number");
+        let stable = words.next().expect(rt, "what is next at stable");
+        let testing = words.next().expect(rt, "what is next at testing");
+        let from: u32 = from.parse().expect(rt, "a number");
+        finds(rt, alloc, shown, Level::Stable, atom, from, stable);
+        finds(rt, alloc, shown, Level::Testing, atom, from, testing);
+    }
+}
+
+/// Atoms, how many packages have their category and name, and how many of these they match and are visible at stable,
+/// where =x/y-2 is masked.
+const COUNTS: &str = "\
+x/y 4 2
+<x/y-3 4 1
+=x/y-2 4 0
+x/y:1 4 0
+!x/y 4 2
+x/z 1 1
+z/y 1 1
+x/n 0 0
+z/z 0 0";
+
+fn counts<R: Abort>(rt: &R, alloc: Global, shown: &VisiblePkgs<'_>, bytes: &str, want: &str) {
+    let atom = atom(rt, alloc, bytes);
+    let (named, met) = want.split_once(' ').expect(rt, "a number");
+    let named: usize = named.parse().expect(rt, "a number");
+    let met: usize = met.parse().expect(rt, "a number");
+    assert_eq!(rt; counts_among(shown, Level::Stable, &atom), (named, met));
+}
+
+// Each line of the table.
+fn counts_all<R: Abort>(rt: &R, alloc: Global, shown: &VisiblePkgs<'_>) {
+    for line in COUNTS.lines() {
+        let (bytes, want) = line.split_once(' ').expect(rt, "an atom");
+        counts(rt, alloc, shown, bytes, want);
+    }
+}
+
+// Both tables, of what the profile shows of the packages.
+fn both_over<'a, R: Abort>(rt: &R, alloc: Global, index: &'a PkgIndex<'a>, profile: &'a Profile) {
+    let shown = VisiblePkgs::new(alloc, index, profile).expect(rt, "memory");
+    finds_all(rt, alloc, &shown);
+    counts_all(rt, alloc, &shown);
+}
+
+fn both<R: Abort>(rt: &R, alloc: Global, index: &PkgIndex<'_>, profile: &Profile) {
+    both_over(rt, alloc, &*index, &*profile);
+}
+
 #[test]
-fn the_next_candidate_is_visible_and_not_before(rt: HostRuntime) {
+fn what_is_visible_is_found_in_order_and_by_name(rt: HostRuntime) {
     let alloc = rt.alloc();
     let pkgs = pkgs(&rt, alloc);
     let profile = profile(&rt, alloc, "=x/y-2");
     let index = PkgIndex::new(alloc, &pkgs).expect(&rt, "memory");
-    for line in NEXT.lines() {
-        let mut words = line.split(' ');
-        let atom = words.next().expect(&rt, "an atom");
-        let from = words.next().expect(&rt, "a number");
-        let stable = words.next().expect(&rt, "what is next at stable");
-        let testing = words.next().expect(&rt, "what is next at testing");
-        let from: u32 = from.parse().expect(&rt, "a number");
-        finds(
-            &rt,
-            alloc,
-            &index,
-            &profile,
-            Level::Stable,
-            atom,
-            from,
-            stable,
-        );
-        finds(
-            &rt,
-            alloc,
-            &index,
-            &profile,
-            Level::Testing,
-            atom,
-            from,
-            testing,
-        );
-    }
+    both(&rt, alloc, &index, &profile);
 }
 
 #[test]

@@ -40,7 +40,7 @@ fn matches_at(masks: &[Mask], place: u32, pkg: &Pkg) -> bool
     }
 }
 
-fn some_matches(masks: &[Mask], places: &[u32], pkg: &Pkg) -> bool
+pub(crate) fn some_matches(masks: &[Mask], places: &[u32], pkg: &Pkg) -> bool
     ensures { result ≡ list_any (matches_at pkg.now masks.now) places.now }
 {
     for place in places {

@@ -18,7 +18,7 @@ pub returns : goal.returns
 returns g c =
     let shown = places_of (shows (profile_of c.args.self.now) (level_of c.args.self.now) c.args.atom.now) (pkgs_of c.args.self.now) in
     let first : c.first_shown.result ≡ find (is_from c.args.from) shown =
-    rw (c.first_shown.ensures, c.items.ensures, c.pkgs.ensures, c.places_from-rest.ensures, c.at-places.ensures, c.bytes.ensures, c.bytes-2.ensures)
+    rw (c.first_shown.ensures, c.places_from-rest.ensures, c.at-places.ensures, c.bytes.ensures, c.bytes-2.ensures)
     (found (profile_of c.args.self.now) (level_of c.args.self.now) c.args.atom.now (pkgs_of c.args.self.now) c.args.from) in
     record {
       first = first;

@@ -1,0 +1,121 @@
+//! The packages that a profile shows, asked of all of them at once.
+//!
+//! `new` costs an index of the masks and a test of each package at each level, and keeps a byte for each; the other calls cost
+//! O(1) and take no memory.
+ghost use Rattle.std.specs.Prelude.{◌≡◌, Some, slice_get, IfOk};
+ghost use Rattle.gv_facts.specs.Visible.{judged, visible};
+ghost use Rattle.gv_facts.specs.declared.pkg.Pkg.{Pkg};
+ghost use Rattle.gv_visible.specs.Shown.{are_visible};
+
+use crate::mask_index::MaskIndex;
+use crate::pkg_index::PkgIndex;
+use gv_base::NoMemory;
+use gv_facts::{Level, Pkg, Profile};
+use std::alloc::Global;
+use std::marker::Model;
+
+// Whether each package is visible at the level.
+fn shown(
+    alloc: Global,
+    pkgs: &[Pkg],
+    masks: &MaskIndex<'_>,
+    level: Level,
+) -> Result<Vec<bool>, NoMemory>
+    ensures { IfOk result (λ shown. shown.items ≡ are_visible masks.now level pkgs.now) }
+{
+    let mut shown = Vec::with_capacity(alloc, pkgs.len())?;
+    for pkg in pkgs {
+        shown.push(masks.visible(pkg, level))?;
+    }
+    Ok(shown)
+}
+
+/// Packages and a profile, with what the profile shows at each level: made once for the profile, and lent to the candidates of
+/// each level.
+#[derive(Drop)]
+pub struct VisiblePkgs<'a> {
+    index: &'a PkgIndex<'a>,
+    profile: &'a Profile,
+    stable: Vec<bool>,
+    testing: Vec<bool>,
+}
+
+impl<'a> Model for VisiblePkgs<'a> {
+    ghost use Rattle.gv_visible.specs.Kept.{AreAllKept};
+    ghost use Rattle.gv_visible.specs.Told.{VisiblePkgs};
+
+    ghost Value = { VisiblePkgs };
+
+    ghost view = { λ v. record { pkgs = v.index.now; profile = v.profile.now } };
+
+    ghost invariant = { λ v. AreAllKept v.stable.items v.testing.items v.profile.now v.index.now };
+}
+
+impl<'a> VisiblePkgs<'a> {
+    /// What the profile shows of the packages.
+    pub fn new(
+        alloc: Global,
+        index: &'a PkgIndex<'a>,
+        profile: &'a Profile,
+    ) -> Result<VisiblePkgs<'a>, NoMemory>
+        ensures { IfOk result (λ shown. shown ≡ record { pkgs = index.now; profile = profile.now }) }
+    {
+        let masks = MaskIndex::new(alloc, profile)?;
+        let pkgs = index.pkgs().items();
+        let stable = shown(alloc, pkgs, &masks, Level::Stable)?;
+        let testing = shown(alloc, pkgs, &masks, Level::Testing)?;
+        Ok(VisiblePkgs {
+            index,
+            profile,
+            stable,
+            testing,
+        })
+    }
+
+    /// The index of the packages.
+    pub fn index(&self) -> &'a PkgIndex<'a>
+        ensures { result.now ≡ self.now.pkgs }
+    {
+        self.index
+    }
+
+    /// The profile.
+    pub fn profile(&self) -> &'a Profile
+        ensures { result.now ≡ self.now.profile }
+    {
+        self.profile
+    }
+
+    /// Of each package whether it is visible at the level.
+    pub fn at(&self, level: Level) -> &[bool]
+        ensures { result.now ≡ are_visible self.now.profile level self.now.pkgs }
+    {
+        match level {
+            Level::Stable => &self.stable,
+            Level::Testing => &self.testing,
+        }
+    }
+
+    fn is_visible(&self, number: u32, level: Level) -> bool
+        ensures { (pkg : Pkg) → slice_get self.now.pkgs number ≡ Some pkg → result ≡ visible pkg self.now.profile level }
+    {
+        match self.at(level).get(number as usize) {
+            Some(shown) => *shown,
+            None => false,
+        }
+    }
+
+    /// The level at which the package with this number is judged, if it is.
+    #[tactic(auto, using(crate::proofs::Levels::stable_first, crate::proofs::Levels::testing_next, crate::proofs::Levels::neither))]
+    pub fn judged(&self, number: u32) -> Option<Level>
+        ensures { (pkg : Pkg) → slice_get self.now.pkgs number ≡ Some pkg → result ≡ judged pkg self.now.profile }
+    {
+        if self.is_visible(number, Level::Stable) {
+            return Some(Level::Stable);
+        }
+        if self.is_visible(number, Level::Testing) {
+            return Some(Level::Testing);
+        }
+        None
+    }
+}
