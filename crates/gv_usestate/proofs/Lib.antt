@@ -1,2 +1,3 @@
 mod Expanded
+mod FlagMap
 mod RulesAtPlaces

@@ -1,1 +1,2 @@
+pub mod FlagPlaces
 pub mod RulesInTurn

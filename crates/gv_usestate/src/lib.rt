@@ -1,12 +1,13 @@
 //! What a profile makes of the flags of a package (PMS chapters 5 and 11).
 //!
-//! Stands on the records and definitions of `gv_facts`. The layers above use that `effective` and `state` equal the
-//! definitions of these names there.
+//! Stands on the records and definitions of `gv_facts`. The layers above use that `effective`, `state` and `state_of` equal
+//! the definitions of these names there.
 //!
 //! - `sources`: whether a flag is effective, source by source, without a list of the effective flags.
 //! - `flags`: that list.
 //! - `restricted`: where stable restrictions apply.
 //! - `states`: the state of a flag, by the rules that name it and no others.
+//! - `profile_states`: a profile with these rules in a hash map, for many flags of many packages.
 //!
 //! A word is compared in O(bytes). `state` costs O(log n) comparisons for n names of flags in rules, O(the package's
 //! flags and keywords), O(the words of IUSE_IMPLICIT), O(the names of USE_EXPAND and USE_EXPAND_UNPREFIXED), for each
@@ -16,6 +17,7 @@
 #![tactic(auto)]
 
 mod flags;
+mod profile_states;
 mod restricted;
 mod sources;
 mod states;
@@ -24,4 +26,5 @@ mod tests;
 
 pub use flags::effective;
 pub use gv_facts::FlagState;
-pub use states::state;
+pub use profile_states::ProfileStates;
+pub use states::{state, state_of};

@@ -1,6 +1,9 @@
 //! The state of a flag (PMS chapter 5).
-ghost use Rattle.std.specs.Prelude.{◌≡◌, ◌&&◌, ◌||◌, false, fold};
+ghost use Rattle.std.specs.Prelude.{◌≡◌, ◌&&◌, ◌||◌, true, false, fold};
+ghost use Rattle.gv_facts.specs.Effective.{is_effective};
 ghost use Rattle.gv_facts.specs.States.{has_effect, state};
+ghost use Rattle.gv_facts.specs.declared.rules.Effect.TheVariants.{Force, Mask};
+ghost use Rattle.gv_usestate.specs.FlagPlaces.{AreRulesOf};
 ghost use Rattle.gv_usestate.specs.RulesInTurn.{counts, behind, behind_at};
 
 use crate::restricted::is_restricted;
@@ -38,26 +41,63 @@ fn on_behind(
     }
 }
 
-// Whether the effect is on behind the rules at these places.
-fn is_on(rules: &[Rule], places: &[u32], effect: Effect, pkg: &Pkg, restricted: bool) -> bool
-    ensures { result ≡ fold (behind_at effect pkg.now restricted rules.now) false places.now }
-{
-    let mut on = false;
-    for place in places {
-        on = on_behind(on, rules, *place, effect, pkg, restricted);
-    }
-    on
+// Whether the flag is masked and whether it is forced.
+#[derive(Clone, Copy)]
+struct Effects {
+    mask: bool,
+    force: bool,
 }
 
-fn has_effect(effect: Effect, pkg: &Pkg, profile: &Profile, level: Level, flag: &[u8]) -> bool
-    ensures { result ≡ has_effect effect pkg.now profile.now level flag.now }
+// What is on behind the rules at these places.
+fn effects_at(rules: &[Rule], places: &[u32], pkg: &Pkg, restricted: bool) -> Effects
+    ensures mask { result.mask ≡ fold (behind_at Mask pkg.now restricted rules.now) false places.now }
+    ensures force { result.force ≡ fold (behind_at Force pkg.now restricted rules.now) false places.now }
 {
-    let places = profile.rules.places_of(flag);
+    let mut mask = false;
+    let mut force = false;
+    for place in places {
+        mask = on_behind(mask, rules, *place, Effect::Mask, pkg, restricted);
+        force = on_behind(force, rules, *place, Effect::Force, pkg, restricted);
+    }
+    Effects { mask, force }
+}
+
+// What is on behind the rules that name the flag.
+fn flag_effects(pkg: &Pkg, profile: &Profile, level: Level, flag: &[u8], places: &[u32]) -> Effects
+    requires { AreRulesOf profile.now.rules flag.now places.now }
+    ensures mask { result.mask ≡ has_effect Mask pkg.now profile.now level flag.now }
+    ensures force { result.force ≡ has_effect Force pkg.now profile.now level flag.now }
+{
     if places.is_empty() {
-        return false;
+        return Effects {
+            mask: false,
+            force: false,
+        };
     }
     let restricted = is_restricted(pkg, profile, level);
-    is_on(profile.rules.items(), places, effect, pkg, restricted)
+    effects_at(profile.rules.items(), places, pkg, restricted)
+}
+
+/// The state of an effective flag, by the places of the rules that name it.
+pub(crate) fn effective_state(
+    pkg: &Pkg,
+    profile: &Profile,
+    level: Level,
+    flag: &[u8],
+    places: &[u32],
+) -> FlagState
+    requires effective { is_effective pkg.now profile.now flag.now ≡ true }
+    requires places { AreRulesOf profile.now.rules flag.now places.now }
+    ensures { result ≡ state pkg.now profile.now level flag.now }
+{
+    let effects = flag_effects(pkg, profile, level, flag, places);
+    if effects.mask {
+        FlagState::Off
+    } else if effects.force {
+        FlagState::On
+    } else {
+        FlagState::Free
+    }
 }
 
 /// The state of the flag for the package in the profile, at this level: absent where it isn't effective, else masked,
@@ -65,14 +105,16 @@ fn has_effect(effect: Effect, pkg: &Pkg, profile: &Profile, level: Level, flag: 
 pub fn state(pkg: &Pkg, profile: &Profile, level: Level, flag: &Text) -> FlagState
     ensures { result ≡ state pkg.now profile.now level flag.now }
 {
-    let flag = flag.bytes();
+    state_of(pkg, profile, level, flag.bytes())
+}
+
+/// The same of a flag by its bytes.
+pub fn state_of(pkg: &Pkg, profile: &Profile, level: Level, flag: &[u8]) -> FlagState
+    ensures { result ≡ state pkg.now profile.now level flag.now }
+{
     if !is_effective(pkg, profile, flag) {
-        FlagState::Absent
-    } else if has_effect(Effect::Mask, pkg, profile, level, flag) {
-        FlagState::Off
-    } else if has_effect(Effect::Force, pkg, profile, level, flag) {
-        FlagState::On
-    } else {
-        FlagState::Free
+        return FlagState::Absent;
     }
+    let places = profile.rules.places_of(flag);
+    effective_state(pkg, profile, level, flag, places)
 }

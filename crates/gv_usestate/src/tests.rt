@@ -1,5 +1,5 @@
 //! Effective flags and states on records made by hand from PMS chapters 5 and 11. Each line of a table is one case.
-use crate::{FlagState, effective, state};
+use crate::{FlagState, ProfileStates, effective, state};
 use gv_atom::{Atom, read_atom};
 use gv_base::{Text, Texts, words_of};
 use gv_facts::{
@@ -130,6 +130,11 @@ fn has_states<R: Abort>(
     let flag = text(rt, alloc, flag);
     let stable = state_text(state(&pkg, &profile, Level::Stable, &flag));
     let testing = state_text(state(&pkg, &profile, Level::Testing, &flag));
+    assert_eq!(rt; want.split_once(' '), Some((stable, testing)));
+    // The same by an index of the profile's rules.
+    let states = ProfileStates::new(alloc, &profile).expect(rt, "memory");
+    let stable = state_text(states.state(&pkg, Level::Stable, flag.bytes()));
+    let testing = state_text(states.state(&pkg, Level::Testing, flag.bytes()));
     assert_eq!(rt; want.split_once(' '), Some((stable, testing)));
 }
 
