@@ -16,9 +16,16 @@ mod Walk
 mod Unmet
 mod Wanted
 mod Weighing
-mod Mentions
+mod MentionedFlags
 mod Naming
 mod Products
 mod Finishing
 mod Refused
 mod Examples
+mod Shown
+mod SameStates
+mod SameTrees
+mod SameAtoms
+mod SameQueries
+mod Gathering
+mod KeysMade

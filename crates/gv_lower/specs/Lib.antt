@@ -12,3 +12,7 @@ pub mod Inputs
 pub mod Lowered
 pub mod Weights
 pub mod ParentFlags
+pub mod Keys
+pub mod KeysAround
+pub mod Mentions
+pub mod Sites

@@ -1,18 +1,18 @@
 //! Atoms as gates: for each visible package that an atom matches, whether the package's flags may be set as its items ask.
 //!
-//! An atom costs O(n log n) comparisons of flags for n items, and for each package a step of the candidates, the states of
-//! the flags that are named and O(n).
-ghost use Rattle.std.specs.Prelude.{◌≡◌, ◌+◌, ◌<◌, length, map, filter, slice_get, Some, IfOk};
+//! An atom costs O(n log n) comparisons of flags for n items, a look-up of its packages, and for each that is shown the
+//! states of the flags that are named and O(n).
+ghost use Rattle.std.specs.Prelude.{◌≡◌, map, filter, IfOk, OnOk};
+ghost use Rattle.std.specs.Option.{option_map};
 ghost use Rattle.gv_facts.specs.States.{state};
 ghost use Rattle.gv_lower.specs.Around.{parent_of, wanted_plan};
 ghost use Rattle.gv_lower.specs.Asks.{asks_plan};
 ghost use Rattle.gv_lower.specs.AtomGates.{atom_plan};
-ghost use Rattle.gv_lower.specs.Drawn.{Drew, DrewEach};
+ghost use Rattle.gv_lower.specs.Drawn.{Drew, DrewEach, DrewIf};
 ghost use Rattle.gv_lower.specs.ParentFlags.{base_at};
-ghost use Rattle.gv_visible.specs.Shown.{shows};
+ghost use Rattle.gv_visible.specs.Shown.{shown_at, shows};
 ghost use Rattle.gv_visible.specs.Tells.{AnswersVisible};
 ghost use Rattle.gv_visible.specs.Told.{level_of, pkgs_of, profile_of, test_of};
-ghost use Rattle.gv_facts.specs.declared.pkg.Pkg.{Pkg};
 
 use crate::asks::{FlagAsks, asks_of, draw_asks};
 use crate::groups::gate_over;
@@ -20,36 +20,35 @@ use crate::parent::ParentFlags;
 use crate::sketch::Sketch;
 use gv_atom::{Atom, Block};
 use gv_base::NoMemory;
-use gv_facts::{Level, Pkg, Profile};
+use gv_facts::Pkg;
 use gv_logic::{Lit, Lits, Op};
 use gv_visible::Candidates;
 
-fn draw_at(
+// For the package at this place, where it is visible and the atom matches it.
+fn draw_shown<F: Fn(&Pkg) -> bool>(
     sketch: &mut Sketch,
     asks: &[FlagAsks],
-    pkgs: &[Pkg],
-    n: u32,
-    profile: &Profile,
-    level: Level,
-) -> Result<Lit, NoMemory>
-    requires { n < length pkgs.now }
-    ensures { IfOk result (λ lit. (p : Pkg) → slice_get pkgs.now n ≡ Some p → Drew (asks_plan (state p profile.now level) asks.now) sketch.old sketch.new lit) }
+    atom: &Atom,
+    place: u32,
+    candidates: &Candidates<'_, F>,
+    lits: &mut Lits,
+) -> Result<(), NoMemory>
+    requires { AnswersVisible (F.pre (test_of candidates.now)) (F.post (test_of candidates.now)) (profile_of candidates.now) (level_of candidates.now) }
+    ensures { OnOk result (DrewIf (option_map (λ p. asks_plan (state p (profile_of candidates.now) (level_of candidates.now)) asks.now) (shown_at (profile_of candidates.now) (level_of candidates.now) atom.now (pkgs_of candidates.now) place)) sketch.old sketch.new lits.old lits.new) }
 {
-    let pkg = &pkgs[n as usize];
-    draw_asks(sketch, asks, pkg, profile, level)
-}
-
-// The number of the next package. Numbers end before 2^32.
-pub(crate) fn next_number(n: u32) -> Result<u32, NoMemory>
-    ensures { IfOk result (λ next. next ≡ n + 1) }
-{
-    match n.checked_add(1) {
-        Some(next) => Ok(next),
-        None => Err(NoMemory),
+    match candidates.shown(place, atom) {
+        None => Ok(()),
+        Some(pkg) => {
+            let profile = candidates.profile();
+            let level = candidates.level();
+            let lit = draw_asks(sketch, asks, pkg, profile, level)?;
+            lits.add(lit)?;
+            Ok(())
+        }
     }
 }
 
-// For each visible package that the atom matches.
+// For each visible package that the atom matches. Those of its name are looked up once.
 fn draw_packages<F: Fn(&Pkg) -> bool>(
     sketch: &mut Sketch,
     asks: &[FlagAsks],
@@ -59,15 +58,9 @@ fn draw_packages<F: Fn(&Pkg) -> bool>(
     requires { AnswersVisible (F.pre (test_of candidates.now)) (F.post (test_of candidates.now)) (profile_of candidates.now) (level_of candidates.now) }
     ensures { IfOk result (λ lits. DrewEach (map (λ p. asks_plan (state p (profile_of candidates.now) (level_of candidates.now)) asks.now) (filter (shows (profile_of candidates.now) (level_of candidates.now) atom.now) (pkgs_of candidates.now))) sketch.old sketch.new lits) }
 {
-    let pkgs = candidates.pkgs().items();
-    let profile = candidates.profile();
-    let level = candidates.level();
     let mut lits = Lits::new(sketch.alloc);
-    let mut from = 0;
-    while let Some(n) = candidates.next(atom, from) {
-        let lit = draw_at(sketch, asks, pkgs, n, profile, level)?;
-        lits.add(lit)?;
-        from = next_number(n)?;
+    for place in candidates.places(atom) {
+        draw_shown(sketch, asks, atom, *place, candidates, &mut lits)?;
     }
     Ok(lits)
 }

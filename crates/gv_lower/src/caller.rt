@@ -1,5 +1,5 @@
 //! Lowering as the layers above call it, with a closure that captures the profile and the level. The crate's tests call
-//! it; it stands here so that the check sees which closures `lower_allowed` and `lower_failing` take.
+//! it; it stands here so that the check sees which closures these calls take.
 ghost use Rattle.std.specs.Prelude.{◌≡◌, ◌<◌, length, IsSome};
 ghost use Rattle.gv_entry.specs.Queries.{class_in};
 

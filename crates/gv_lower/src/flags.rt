@@ -46,7 +46,7 @@ fn add_all(alloc: Global, flags: &mut Texts, others: &Texts) -> Result<(), NoMem
     Ok(())
 }
 
-#[tactic(auto, using(crate::proofs::Mentions::both_in_order))]
+#[tactic(auto, using(crate::proofs::MentionedFlags::both_in_order))]
 fn mentioned(alloc: Global, required: &UseExpr, class: &DepExpr) -> Result<Texts, NoMemory>
     ensures { IfOk result (λ flags. flags ≡ in_order (req_mentions (reqs required.now) ++ dep_mentions (deps class.now))) }
 {

@@ -15,15 +15,15 @@ use std::marker::Brand;
 use std::process::Abort;
 use std::sync::ledger::{Blank, Ledger};
 
-pub fn text<R: Abort>(rt: &R, alloc: Global, bytes: &str) -> Text {
+pub(crate) fn text<R: Abort>(rt: &R, alloc: Global, bytes: &str) -> Text {
     Text::of(alloc, bytes.as_bytes()).expect(rt, "memory")
 }
 
-pub fn texts<R: Abort>(rt: &R, alloc: Global, words: &str) -> Texts {
+pub(crate) fn texts<R: Abort>(rt: &R, alloc: Global, words: &str) -> Texts {
     words_of(alloc, words.as_bytes()).expect(rt, "memory")
 }
 
-pub fn eapi_of(word: &str) -> Eapi {
+pub(crate) fn eapi_of(word: &str) -> Eapi {
     match word.as_bytes() {
         b"5" => Eapi::Five,
         b"6" => Eapi::Six,
@@ -33,7 +33,7 @@ pub fn eapi_of(word: &str) -> Eapi {
 }
 
 // CATEGORY/NAME-1 with these flags.
-pub fn pkg<R: Abort>(
+pub(crate) fn pkg<R: Abort>(
     rt: &R,
     alloc: Global,
     category: &str,
@@ -57,7 +57,7 @@ pub fn pkg<R: Abort>(
 }
 
 // A profile that forces these flags of the packages that the atom matches.
-pub fn profile<R: Abort>(rt: &R, alloc: Global, atom: &str, forced: &str) -> Profile {
+pub(crate) fn profile<R: Abort>(rt: &R, alloc: Global, atom: &str, forced: &str) -> Profile {
     let mut rules = Rules::new(alloc);
     for flag in texts(rt, alloc, forced).items() {
         let rule = Rule {
@@ -85,7 +85,7 @@ pub fn profile<R: Abort>(rt: &R, alloc: Global, atom: &str, forced: &str) -> Pro
 }
 
 // With this REQUIRED_USE and this RDEPEND.
-pub fn body<R: Abort>(rt: &R, alloc: Global, required: &[u8], rdepend: &[u8]) -> Body
+pub(crate) fn body<R: Abort>(rt: &R, alloc: Global, required: &[u8], rdepend: &[u8]) -> Body
     ensures required { IsSome result.required }
     ensures rdepend { IsSome result.rdepend }
 {
@@ -100,7 +100,7 @@ pub fn body<R: Abort>(rt: &R, alloc: Global, required: &[u8], rdepend: &[u8]) ->
 }
 
 // app/p-1, and x/y-1 unless its flags are `-`.
-pub fn pkgs<R: Abort>(rt: &R, alloc: Global, eapi: Eapi, iuse: &str, others: &str) -> Pkgs {
+pub(crate) fn pkgs<R: Abort>(rt: &R, alloc: Global, eapi: Eapi, iuse: &str, others: &str) -> Pkgs {
     let mut pkgs = Pkgs::new(alloc);
     pkgs.add(pkg(rt, alloc, "app", "p", eapi, iuse))
         .expect(rt, "memory");
@@ -147,7 +147,7 @@ fn allowed_counted<L: Ledger>(
 }
 
 // The query of RDEPEND of the first of the packages.
-pub fn failing<R: Abort>(
+pub(crate) fn failing<R: Abort>(
     rt: &R,
     alloc: Global,
     pkgs: &Pkgs,
@@ -165,7 +165,7 @@ pub fn failing<R: Abort>(
 }
 
 // The query of its REQUIRED_USE.
-pub fn allowed<R: Abort>(
+pub(crate) fn allowed<R: Abort>(
     rt: &R,
     alloc: Global,
     pkgs: &Pkgs,
@@ -182,7 +182,7 @@ pub fn allowed<R: Abort>(
 }
 
 // The value of the query at these bits.
-pub fn value_at<R: Abort>(rt: &R, alloc: Global, query: &Query, bits: &Bits) -> bool {
+pub(crate) fn value_at<R: Abort>(rt: &R, alloc: Global, query: &Query, bits: &Bits) -> bool {
     if bits.items().len() != query.gates.inputs() as usize {
         assert!(rt; false, "a bit for each flag");
         return false;

@@ -20,12 +20,11 @@ ghost use Rattle.gv_visible.specs.Shown.{shows};
 ghost use Rattle.gv_visible.specs.Tells.{AnswersVisible};
 ghost use Rattle.gv_visible.specs.Told.{level_of, pkgs_of, profile_of, test_of};
 
-use crate::atoms::next_number;
 use crate::query::LowerFault;
 use gv_atom::{Atom, Block, UseItem};
 use gv_base::NoMemory;
 use gv_expr::{DepExpr, DepTree, UseExpr, UseTree};
-use gv_facts::{Pkg, Pkgs};
+use gv_facts::Pkg;
 use gv_visible::Candidates;
 
 /// A query weighs at most so much.
@@ -86,12 +85,22 @@ fn count(items: &[UseItem]) -> u64
 }
 
 // One and the atom's items, for each package of its name. No package is looked at.
-fn named_weight(atom: &Atom, pkgs: &Pkgs) -> u64
-    ensures { result ≡ capped (sum_by (λ (p : Pkg). 1 + length atom.now.items) (filter (is_pkg_of atom.now.category atom.now.name) pkgs.now)) }
+fn named_weight<F: Fn(&Pkg) -> bool>(atom: &Atom, candidates: &Candidates<'_, F>) -> u64
+    ensures { result ≡ capped (sum_by (λ (p : Pkg). 1 + length atom.now.items) (filter (is_pkg_of atom.now.category atom.now.name) (pkgs_of candidates.now))) }
 {
     let each = plus(1, count(atom.items.items()));
-    let places = pkgs.places_of(atom.category.bytes(), atom.name.bytes());
+    let places = candidates.places(atom);
     times(each, places.len() as u64)
+}
+
+// The number of the next package. Numbers end before 2^32.
+fn next_number(n: u32) -> Result<u32, NoMemory>
+    ensures { IfOk result (λ next. next ≡ n + 1) }
+{
+    match n.checked_add(1) {
+        Some(next) => Ok(next),
+        None => Err(NoMemory),
+    }
 }
 
 // One and the atom's items, for each visible package that it matches.
@@ -122,7 +131,7 @@ fn packages_weight<F: Fn(&Pkg) -> bool>(
     ensures { IfOk result (λ weight. weight ≡ capped (packages_weight counted (parent_of candidates.now pkg.now) atom.now)) }
 {
     match counted {
-        Counted::Named => Ok(named_weight(atom, candidates.pkgs())),
+        Counted::Named => Ok(named_weight(atom, candidates)),
         Counted::Shown => shown_weight(atom, candidates),
     }
 }

@@ -4,7 +4,7 @@ use Rattle.gv_expr.specs.Mentioned.{req_mentions}
 use Rattle.gv_expr.specs.Req.{reqs}
 use Rattle.gv_facts.specs.States.{state}
 use Rattle.gv_entry.specs.Allowed.{is_free}
-use Rattle.gv_lower.proofs.Mentions.{filtered_ascends}
+use Rattle.gv_lower.proofs.MentionedFlags.{filtered_ascends}
 use Rattle.gv_lower.proofs.flags.required_flags.Goals as goal
 
 pub returns-clause-flags : goal.returns-clause-flags
