@@ -1,0 +1,13 @@
+pub mod Bytes
+pub mod Commands
+pub mod Dones
+pub mod Folders
+pub mod Inners
+pub mod Lefts
+pub mod Lists
+pub mod Looks
+pub mod Numbers
+pub mod Overlays
+pub mod ScriptExamples
+pub mod Spaces
+pub mod Texts

@@ -1,0 +1,12 @@
+pub mod Command
+pub mod Edited
+pub mod Edits
+pub mod Inner
+pub mod Kept
+pub mod Length
+pub mod Line
+pub mod Pending
+pub mod Reading
+pub mod Script
+pub mod ScriptFaults
+pub mod Written
