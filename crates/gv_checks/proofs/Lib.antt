@@ -1,0 +1,17 @@
+pub mod AnswersLaw
+pub mod GatesLaw
+pub mod CertLemmas
+pub mod WitnessLemmas
+pub mod ReportLemmas
+pub mod JudgeLemmas
+pub mod WalkLemmas
+pub mod SelectedLemmas
+pub mod AllLemmas
+pub mod NamedLemmas
+pub mod KnownLemmas
+pub mod PlainLemmas
+pub mod LowerLemmas
+pub mod SharedLemmas
+pub mod OneLemmas
+pub mod KeyLemmas
+pub mod ViewLemmas

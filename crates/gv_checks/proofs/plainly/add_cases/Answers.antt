@@ -1,0 +1,25 @@
+use Rattle.std.proofs.Common.{◌++◌}
+use Rattle.std.specs.Prelude.{flat_map}
+use Rattle.gv_checks.specs.Cases.{cases_of}
+use Rattle.gv_checks.specs.Plain.{told_case}
+use Rattle.gv_checks.proofs.ViewLemmas.{told_end, told_next}
+use Rattle.gv_checks.proofs.WalkLemmas.{seen_at}
+use Rattle.gv_checks.proofs.plainly.add_cases.Goals as goal
+
+pub add_judged-requires-clause-pkgs : goal.add_judged-requires-clause-pkgs
+add_judged-requires-clause-pkgs c =
+    (seen_at c.args.repo.now.pkgs c.args.repo.now.profiles c.args.views.now c.loop-view.view-index c.view-item.result c.requires.views c.loop-view-test.true c.view-item.is).pkgs_are
+
+pub loop-view-preserved : goal.loop-view-preserved
+loop-view-preserved c =
+    told_next c.args.options.now c.args.repo.now (record { number = c.args.number; pkg = c.args.pkg.now; body = c.args.body.now }) c.args.views.now c.loop-view.view-index c.view-item.result
+    c.requires.views c.loop-view-test.true c.view-item.is c.loop-view.reports c.add_judged.new.reports
+    (c.args.reports.now ++ flat_map (told_case c.args.options.now) (cases_of c.args.repo.now (record { number = c.args.number; pkg = c.args.pkg.now; body = c.args.body.now })))
+    c.in_ok-add_judged.ensures c.loop-view.invariant
+
+pub returns : goal.returns
+returns c =
+    told_end c.args.options.now c.args.repo.now (record { number = c.args.number; pkg = c.args.pkg.now; body = c.args.body.now }) c.args.views.now c.loop-view.view-index
+    c.requires.views c.loop-view-test.false c.loop-view.reports
+    (c.args.reports.now ++ flat_map (told_case c.args.options.now) (cases_of c.args.repo.now (record { number = c.args.number; pkg = c.args.pkg.now; body = c.args.body.now })))
+    c.loop-view.invariant

@@ -1,0 +1,17 @@
+pub mod Cases
+pub mod Classes
+pub mod Queries
+pub mod Asked
+pub mod RepoReports
+pub mod Plain
+pub mod Certs
+pub mod Unmet
+pub mod Judged
+pub mod Limits
+pub mod Progress
+pub mod Answered
+pub mod Recalled
+pub mod Walks
+pub mod Keys
+pub mod Shared
+pub mod Named

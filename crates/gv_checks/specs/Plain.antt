@@ -1,0 +1,63 @@
+-- For the contracts of private functions: the reports that need no query, as far as they are selected.
+use Rattle.std.specs.Prelude.{ℕ, Bool, false, not, if◌then◌else◌, List, [], ◌++◌, map, filter, flat_map, slice_get, Option, None, Some}
+use Rattle.std.specs.Option.{option_map_or}
+use Rattle.gv_base.specs.Order.{has_text}
+use Rattle.gv_atom.specs.declared.atom.Atom.{Atom}
+use Rattle.gv_expr.specs.Dep.{Deps}
+use Rattle.gv_expr.specs.Mentioned.{wanted_atoms}
+use Rattle.gv_entry.specs.declared.entry.Body.{Body}
+use Rattle.gv_facts.specs.Visible.{matches_pkg}
+use Rattle.gv_facts.specs.declared.kinds.Class.{Class}
+use Rattle.gv_facts.specs.declared.pkg.Pkg.{Pkg}
+use Rattle.gv_report.specs.Selected.{selected}
+use Rattle.gv_report.specs.Keywords.{has_keyword}
+use Rattle.gv_report.specs.declared.keyword.Keyword.TheVariants as keywords
+use Rattle.gv_report.specs.declared.options.Options.{Options}
+use Rattle.gv_report.specs.declared.report.Report.{Report}
+use Rattle.gv_checks.specs.Cases.{Case, Member, cases_of, members}
+use Rattle.gv_checks.specs.Queries.{is_told}
+use Rattle.gv_checks.specs.RepoReports.{is_nowhere, is_unstated, live_in, mentioned_in, nonexistent, nonexistent_in, readable_classes, unstated, unstated_in}
+use Rattle.gv_load.specs.declared.loading.Repo.{Repo}
+use Rattle.gv_checks.specs.declared.unstated.OtherFlags.{OtherFlags}
+
+-- whether the package at a place matches the atom
+abbrev pub matches_at : Atom → List Pkg → ℕ → Bool
+matches_at atom pkgs place = option_map_or (matches_pkg atom) (slice_get pkgs place) false
+
+-- of the atoms of trees
+abbrev pub nowhere_in : List Pkg → Pkg → Class → Deps → List Report
+nowhere_in among p class ts = map (nonexistent p class) (filter (is_nowhere among) (wanted_atoms ts))
+
+-- the flags that a class mentions and that aren't in the package's IUSE
+abbrev pub is_other : Pkg → List ℕ → Bool
+is_other p flag = not (has_text p.iuse flag)
+
+abbrev pub other_flags : Pkg → Body → Class → OtherFlags
+other_flags p body class = record { class = class; flags = filter (is_other p) (mentioned_in body class) }
+
+-- those of them that aren't effective
+abbrev pub unstated_among : Case → OtherFlags → List Report
+unstated_among c others = map (unstated c others.class) (filter (is_unstated c) others.flags)
+
+-- What is told of a package, and in a context.
+abbrev pub told_nonexistent : Options → List Pkg → Pkg → Body → List Report
+told_nonexistent o among p body = if has_keyword o.keywords keywords.NonexistentDeps then flat_map (nonexistent_in among p body) (readable_classes p body) else []
+
+abbrev pub told_unstated : Options → Case → List Report
+told_unstated o c = if is_told o c keywords.UnstatedIuse then flat_map (unstated_in c) (readable_classes c.member.pkg c.member.body) else []
+
+abbrev pub told_live : Options → Case → List Report
+told_live o c = if is_told o c keywords.VisibleVcsPkg then live_in c else []
+
+abbrev pub told_case : Options → Case → List Report
+told_case o c = told_unstated o c ++ told_live o c
+
+abbrev pub told_in : Options → Option Case → List Report
+told_in o None = []
+told_in o (Some c) = told_case o c
+
+abbrev pub told_member : Options → Repo → Member → List Report
+told_member o repo m = told_nonexistent o repo.pkgs m.pkg m.body ++ flat_map (told_case o) (cases_of repo m)
+
+abbrev pub told : Options → Repo → List Report
+told o repo = filter (selected o) repo.notes ++ flat_map (told_member o repo) (members repo)

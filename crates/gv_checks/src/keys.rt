@@ -1,0 +1,135 @@
+//! What the keys of a package's queries are made of: what its classes ask about, found once for the package, and the key of its
+//! REQUIRED_USE, made once for each context.
+//!
+//! A key costs what `gv_lower` says of the key of its class.
+ghost use Rattle.std.specs.Prelude.{◌≡◌, ◌++◌, [], option_map, unwrap_or, IfOk, OnOk};
+ghost use Rattle.std.specs.Option.{option_copied};
+ghost use Rattle.gv_lower.specs.Keys.{required_key};
+ghost use Rattle.gv_checks.specs.Judged.{case_of};
+ghost use Rattle.gv_checks.specs.Keys.{ArePartsOf, AreSitesOf, sites_at, sites_in};
+ghost use Rattle.gv_checks.specs.Queries.{query_of};
+ghost use Rattle.gv_checks.specs.Shared.{key_of};
+
+use crate::judged::JudgedPkg;
+use crate::views::ProfileView;
+use gv_base::NoMemory;
+use gv_entry::Body;
+use gv_expr::{DepExpr, UseExpr};
+use gv_facts::Class;
+use gv_lower::{ClassSites, RequiredFlags, add_class_key, add_required_key};
+use gv_usestate::ProfileStates;
+use gv_visible::PkgIndex;
+use std::alloc::Global;
+
+/// What the queries of a package ask about, of each class that isn't broken.
+#[derive(Drop)]
+pub(crate) struct PkgSites<'a> {
+    pub(crate) required: Option<RequiredFlags<'a>>,
+    pub(crate) depend: Option<ClassSites<'a>>,
+    pub(crate) bdepend: Option<ClassSites<'a>>,
+    pub(crate) rdepend: Option<ClassSites<'a>>,
+    pub(crate) pdepend: Option<ClassSites<'a>>,
+    pub(crate) idepend: Option<ClassSites<'a>>,
+}
+
+fn required_in<'a>(
+    alloc: Global,
+    required: &'a Option<UseExpr>,
+) -> Result<Option<RequiredFlags<'a>>, NoMemory>
+    ensures { IfOk result (λ flags. flags ≡ required.now) }
+{
+    match required {
+        Some(required) => Ok(Some(RequiredFlags::new(alloc, required)?)),
+        None => Ok(None),
+    }
+}
+
+fn sites_in<'a>(
+    alloc: Global,
+    index: &PkgIndex<'a>,
+    class: &'a Option<DepExpr>,
+) -> Result<Option<ClassSites<'a>>, NoMemory>
+    ensures { IfOk result (λ sites. sites ≡ option_map (sites_in index.now) class.now) }
+{
+    match class {
+        Some(class) => Ok(Some(ClassSites::new(alloc, index, class)?)),
+        None => Ok(None),
+    }
+}
+
+impl<'a> PkgSites<'a> {
+    pub(crate) fn new(
+        alloc: Global,
+        index: &'a PkgIndex<'a>,
+        body: &'a Body,
+    ) -> Result<PkgSites<'a>, NoMemory>
+        ensures { IfOk result (AreSitesOf index.now body.now) }
+    {
+        Ok(PkgSites {
+            required: required_in(alloc, &body.required)?,
+            depend: sites_in(alloc, index, &body.depend)?,
+            bdepend: sites_in(alloc, index, &body.bdepend)?,
+            rdepend: sites_in(alloc, index, &body.rdepend)?,
+            pdepend: sites_in(alloc, index, &body.pdepend)?,
+            idepend: sites_in(alloc, index, &body.idepend)?,
+        })
+    }
+
+    fn at(&self, class: Class) -> Option<&ClassSites<'a>>
+        ensures { option_copied result ≡ sites_at self.now class }
+    {
+        match class {
+            Class::Required => None,
+            Class::Depend => self.depend.as_ref(),
+            Class::Bdepend => self.bdepend.as_ref(),
+            Class::Rdepend => self.rdepend.as_ref(),
+            Class::Pdepend => self.pdepend.as_ref(),
+            Class::Idepend => self.idepend.as_ref(),
+        }
+    }
+
+    /// Adds the key of the query, from the view of its profile and the key of REQUIRED_USE.
+    pub(crate) fn add_key(
+        &self,
+        judged: &JudgedPkg<'_>,
+        class: Class,
+        view: &ProfileView<'_>,
+        required: &[u8],
+        key: &mut Vec<u8>,
+    ) -> Result<(), NoMemory>
+        requires { ArePartsOf judged.now view.now self.now required.now }
+        ensures { OnOk result (key.new.items ≡ key.old.items ++ key_of (query_of (case_of judged.now) class)) }
+    {
+        key.extend_from_slice(required)?;
+        match self.at(class) {
+            None => Ok(()),
+            Some(sites) => {
+                let seen = view.seen();
+                let states = view.states();
+                add_class_key(sites, judged.pkg, seen, states, judged.level, key)
+            }
+        }
+    }
+}
+
+/// The key of REQUIRED_USE; of a broken one none.
+#[tactic(auto, using(crate::proofs::KeyLemmas::required_none))]
+pub(crate) fn required_key(
+    alloc: Global,
+    judged: &JudgedPkg<'_>,
+    states: &ProfileStates<'_>,
+    flags: &Option<RequiredFlags<'_>>,
+) -> Result<Vec<u8>, NoMemory>
+    requires states { states.now ≡ judged.now.profile.now }
+    requires flags { flags.now ≡ judged.now.body.now.required }
+    ensures { IfOk result (λ key. key.items ≡ required_key (case_of judged.now).parent (unwrap_or judged.now.body.now.required [])) }
+{
+    let mut key = Vec::new(alloc);
+    match flags {
+        None => Ok(key),
+        Some(flags) => {
+            add_required_key(flags, judged.pkg, states, judged.level, &mut key)?;
+            Ok(key)
+        }
+    }
+}

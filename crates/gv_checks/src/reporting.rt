@@ -1,0 +1,209 @@
+//! The report of a query, from what was found for its gates.
+//!
+//! Costs the values of the gates and the bytes of the report.
+ghost use Rattle.std.specs.Prelude.{◌≡◌, ◌++◌, [], true, codes, if◌then◌else◌, option_map, unwrap_or, map, slice_get, length, Some, None, IfOk};
+ghost use Rattle.gv_base.specs.Words.{joined};
+ghost use Rattle.gv_expr.specs.DepGrammar.{item_text};
+ghost use Rattle.gv_entry.specs.declared.entry.Body.{Body};
+ghost use Rattle.gv_logic.specs.Circuits.{at, values};
+ghost use Rattle.gv_logic.specs.Literals.{lit_true};
+ghost use Rattle.gv_lower.specs.Lowered.{IsQuery};
+ghost use Rattle.gv_checks.specs.Judged.{case_of};
+ghost use Rattle.gv_checks.specs.Queries.{class_of, context_of, flags_of, gates_of, has_query, items_of, least_of, query_of, required_of};
+ghost use Rattle.gv_checks.specs.RepoReports.{failing_text, nonsolvable, query_report, subject_of, unsatisfiable, witness_of, witness_words};
+ghost use Rattle.gv_checks.specs.Unmet.{FoundUnmet, first_off};
+
+use crate::classes::class_keyword;
+use crate::judged::JudgedPkg;
+use crate::laws::answers_law;
+use gv_base::{NoMemory, Text, Texts};
+use gv_entry::class_in;
+use gv_expr::{DepExpr, print_item, print_required};
+use gv_facts::{Class, Pkg};
+use gv_logic::{Bits, Lit, values};
+use gv_lower::{Query, value_law};
+use gv_report::{ContextName, Keyword, Report, Subject};
+use std::alloc::Global;
+
+/// The package as the subject of a report.
+pub(crate) fn subject_of(alloc: Global, pkg: &Pkg) -> Result<Subject, NoMemory>
+    ensures { IfOk result (λ subject. subject ≡ subject_of pkg.now) }
+{
+    Ok(Subject::Package {
+        category: pkg.category.copy(alloc)?,
+        name: pkg.name.copy(alloc)?,
+        version: pkg.version.copy(alloc)?,
+        pf: pkg.pf.copy(alloc)?,
+    })
+}
+
+pub(crate) fn context_of(alloc: Global, judged: &JudgedPkg<'_>) -> Result<ContextName, NoMemory>
+    ensures { IfOk result (λ context. context ≡ context_of (case_of judged.now).parent) }
+{
+    Ok(ContextName {
+        line: judged.profile.line,
+        arch: judged.profile.arch.copy(alloc)?,
+        path: judged.profile.path.copy(alloc)?,
+        level: judged.level,
+    })
+}
+
+// A flag, with `-` before it where it is off.
+fn witness_word(alloc: Global, flag: &Text, on: bool) -> Result<Text, NoMemory>
+    ensures { IfOk result (λ word. word ≡ (if on then flag.now else codes "-" ++ flag.now)) }
+{
+    if on {
+        return flag.copy(alloc);
+    }
+    let mut word = Text::of(alloc, b"-")?;
+    word.append(flag.bytes())?;
+    Ok(word)
+}
+
+#[tactic(auto, using(crate::proofs::WitnessLemmas::next_word, crate::proofs::WitnessLemmas::no_words))]
+fn witness_words(alloc: Global, flags: &[Text], bits: &[bool]) -> Result<Texts, NoMemory>
+    ensures { IfOk result (λ words. words ≡ witness_words flags.now bits.now) }
+{
+    let mut words = Texts::new(alloc);
+    for (i, flag) in flags.iter().enumerate() {
+        if i >= bits.len() {
+            return Ok(words);
+        }
+        words.add(witness_word(alloc, flag, bits[i])?)?;
+    }
+    Ok(words)
+}
+
+/// The words of the flags with these bits, joined by one space.
+pub(crate) fn witness_of(alloc: Global, flags: &[Text], bits: &[bool]) -> Result<Text, NoMemory>
+    ensures { IfOk result (λ text. text ≡ joined (witness_words flags.now bits.now)) }
+{
+    let words = witness_words(alloc, flags, bits)?;
+    words.joined(alloc, b' ')
+}
+
+fn is_true(places: &[bool], lit: Lit) -> bool
+    ensures { result ≡ lit_true (at places.now) lit }
+{
+    let on = match places.get((lit.0 / 2) as usize) {
+        Some(on) => *on,
+        None => false,
+    };
+    if lit.0 % 2 == 0 { on } else { !on }
+}
+
+// The place of the first literal that is false.
+fn first_false(places: &[bool], lits: &[Lit]) -> Option<usize>
+    ensures { result ≡ first_off (map (lit_true (at places.now)) lits.now) }
+{
+    for (i, lit) in lits.iter().enumerate() {
+        if !is_true(places, *lit) {
+            return Some(i);
+        }
+    }
+    None
+}
+
+// The text of the first top item whose literal is false. A place fits 32 bits in every class that is read; where one
+// doesn't, memory is said to be wanting.
+fn unmet_text(
+    alloc: Global,
+    class: &DepExpr,
+    places: &[bool],
+    items: &[Lit],
+) -> Result<Text, NoMemory>
+    ensures { IfOk result (FoundUnmet class.now (first_off (map (lit_true (at places.now)) items.now))) }
+{
+    match first_false(places, items) {
+        Some(n) if n < class.items.len() => match u32::try_from(n) {
+            Ok(n) => print_item(alloc, class, n),
+            Err(_) => Err(NoMemory),
+        },
+        _ => Text::of(alloc, b""),
+    }
+}
+
+fn unsatisfiable(alloc: Global, judged: &JudgedPkg<'_>, class: Class) -> Result<Report, NoMemory>
+    ensures { IfOk result (λ report. report ≡ unsatisfiable (query_of (case_of judged.now) class)) }
+{
+    let detail = match &judged.body.required {
+        Some(required) => print_required(alloc, required)?,
+        None => Text::of(alloc, b"")?,
+    };
+    Ok(Report {
+        subject: subject_of(alloc, judged.pkg)?,
+        keyword: Keyword::UnsatisfiableRequiredUse,
+        class: None,
+        context: Some(context_of(alloc, judged)?),
+        witness: None,
+        detail: Some(detail),
+    })
+}
+
+// The text of the first top item that doesn't hold under these bits.
+fn failing_text(
+    alloc: Global,
+    judged: &JudgedPkg<'_>,
+    class: Class,
+    dep: &DepExpr,
+    query: &Query,
+    bits: &Bits,
+) -> Result<Text, NoMemory>
+    requires class { class_of (query_of (case_of judged.now) class) ≡ Some dep.now }
+    requires lowered { IsQuery (gates_of (query_of (case_of judged.now) class)) (flags_of (query_of (case_of judged.now) class)) (items_of (query_of (case_of judged.now) class)) query.now }
+    requires long { length bits.now ≡ length (flags_of (query_of (case_of judged.now) class)) }
+    ensures { IfOk result (λ text. text ≡ failing_text (query_of (case_of judged.now) class) dep.now bits.now) }
+{
+    let _judged = *judged;
+    let _class = class;
+    value_law();
+    let places = values(alloc, &query.gates, bits)?;
+    unmet_text(alloc, dep, places.items(), query.items.items())
+}
+
+fn nonsolvable(
+    alloc: Global,
+    judged: &JudgedPkg<'_>,
+    class: Class,
+    dep: &DepExpr,
+    query: &Query,
+    bits: &Bits,
+) -> Result<Report, NoMemory>
+    requires class { class_of (query_of (case_of judged.now) class) ≡ Some dep.now }
+    requires lowered { IsQuery (gates_of (query_of (case_of judged.now) class)) (flags_of (query_of (case_of judged.now) class)) (items_of (query_of (case_of judged.now) class)) query.now }
+    requires long { length bits.now ≡ length (flags_of (query_of (case_of judged.now) class)) }
+    ensures { IfOk result (λ report. report ≡ nonsolvable (query_of (case_of judged.now) class) dep.now bits.now) }
+{
+    Ok(Report {
+        subject: subject_of(alloc, judged.pkg)?,
+        keyword: class_keyword(judged.profile.status),
+        class: Some(class),
+        context: Some(context_of(alloc, judged)?),
+        witness: Some(witness_of(alloc, query.flags.items(), bits.items())?),
+        detail: Some(failing_text(alloc, judged, class, dep, query, bits)?),
+    })
+}
+
+/// The report of the query, if it has one, from the least assignment that is asked for.
+pub(crate) fn report_of(
+    alloc: Global,
+    judged: &JudgedPkg<'_>,
+    class: Class,
+    query: &Query,
+    found: &Option<Bits>,
+) -> Result<Option<Report>, NoMemory>
+    requires lowered { IsQuery (gates_of (query_of (case_of judged.now) class)) (flags_of (query_of (case_of judged.now) class)) (items_of (query_of (case_of judged.now) class)) query.now }
+    requires found { found.now ≡ least_of (query_of (case_of judged.now) class) }
+    ensures { IfOk result (λ report. report ≡ query_report (query_of (case_of judged.now) class)) }
+{
+    answers_law();
+    match (class_in(judged.body, class), found) {
+        (None, None) => Ok(Some(unsatisfiable(alloc, judged, class)?)),
+        (None, Some(_)) => Ok(None),
+        (Some(_), None) => Ok(None),
+        (Some(dep), Some(bits)) => {
+            let report = nonsolvable(alloc, judged, class, dep, query, bits)?;
+            Ok(Some(report))
+        }
+    }
+}
