@@ -1,0 +1,3 @@
+mod AcceptedLaw
+mod DifferLemmas
+mod VerifyLemmas

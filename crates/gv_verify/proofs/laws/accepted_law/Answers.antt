@@ -1,0 +1,5 @@
+use Rattle.gv_verify.proofs.AcceptedLaw.{is_accepted}
+use Rattle.gv_verify.proofs.laws.accepted_law.Goals as goal
+
+pub returns : goal.returns
+returns c = is_accepted c.circuit_law.ensures
