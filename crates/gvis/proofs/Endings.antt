@@ -1,228 +1,166 @@
--- From how a scan ends and how that is told to what a run leaves, by its status.
-use Rattle.std.proofs.Common.{◌≡◌, ℕ, ◌==◌, ◌≤◌, ◌<◌, Bool, true, false, not, List, [], ◌∷◌, Some, None, refl, sym, ap, subst, ◌∙◌, inl, inr}
-use Rattle.std.specs.Prelude.{Option, IfSome, IfOk, IfErr, Ok, Err, nat_lt, ◌⊎◌}
-use Rattle.std.proofs.lemmas.Bool.{false≢true, lt-ltb}
+-- What a scan in which nothing outside fails says of the files.
+use Rattle.std.proofs.Common.{◌≡◌, ℕ, ◌<◌, ◌^◌, List, [], ◌∷◌, ◌++◌, length, Some, None, refl, sym, ap, subst, ◌∙◌, inl, inr, arith}
+use Rattle.std.specs.Prelude.{Option, IfSome, IfOk, IfErr, Ok, Err, ◌⊎◌}
+use Rattle.std.specs.List.{AllByRecursion}
 use Rattle.gv_base.specs.Causes.{Rose}
 use Rattle.gv_base.specs.FileMap.{FileMap}
-use Rattle.gv_base.specs.Words.{is_empty}
+use Rattle.gv_cert.specs.Records.{KnownRecord}
+use Rattle.gv_expr.specs.Dep.{Dep}
+use Rattle.gv_expr.specs.Req.{Req}
+use Rattle.gv_entry.specs.Allowed.{Parent}
+use Rattle.gv_load.specs.declared.faults.LoadFault.{LoadFault}
+use Rattle.gv_load.specs.declared.loading.Repo.{Repo}
+use Rattle.gv_load.specs.Loading.{loading}
 use Rattle.gv_load.specs.Look.{look_of}
+use Rattle.gv_query.specs.Asked.{IsSpent}
+use Rattle.gv_report.specs.declared.options.Options.{Options}
+use Rattle.gv_words.specs.Commands.{IsOneCommand}
+use Rattle.gv_words.specs.declared.command.Command.{Command}
+use Rattle.gv_words.specs.declared.command.Command.TheVariants as commands
+use Rattle.gv_checks.specs.Asked.{asked_flags, asked_gates}
+use Rattle.gv_checks.specs.Limits.{IsPast, IsRefused, IsWithin}
+use Rattle.gv_checks.specs.Queries.{Query, class_of, gates_of, queries, required_of}
+use Rattle.gv_checks.specs.declared.fault.JudgeFault.TheVariants as judges
+use Rattle.gv_checks.specs.declared.names.QueryName.{QueryName}
+use Rattle.gvis.specs.declared.asking.Asked.{Asked}
 use Rattle.gvis.specs.declared.refusal.Refusal.{Refusal}
-use Rattle.gvis.specs.declared.refusal.Refusal.TheVariants.{BadWords, TreeFailed, OutputFailed, NoMemory, NotARepository, Limit, NotBuilt}
-use Rattle.gvis.specs.Endings.{Told, GainsFront, SaysLine, SaysNothing, TellsRefusal, refusal_line, refusal_status, well_status}
-use Rattle.gvis.specs.Run.{Ending, Leaves, Refused, Refuses, Reports, Scans, World}
-use Rattle.gvis.specs.Scan.{IsText, IsRefused, said_by, scan_of}
-use Rattle.gvis.specs.Words.{is_scan}
+use Rattle.gvis.specs.declared.refusal.Refusal.TheVariants.{BadWords, TreeFailed, StoreFailed, OutputFailed, Spent, NoMemory, NotARepository, Limit}
+use Rattle.gvis.specs.Asking.{AsksFor}
+use Rattle.gvis.specs.Endings.{Told, SaysNothing, TellsRefusal, well_status}
+use Rattle.gvis.specs.Fetching.{IsGiven}
+use Rattle.gvis.specs.Performs.{Ending, Performs}
+use Rattle.gvis.specs.Run.{Entered, IsPastLimit, IsSpentAt, Reports, ScanRefuses, World}
+use Rattle.gvis.specs.Scan.{Fits, IsCovered, IsLoaded, IsPastOne, IsUnloaded, Says, unloaded_status}
+use Rattle.gvis.proofs.Performed.{Ends, IsWhy, five_only, or_five, scan_ends}
 
--- numbers that aren't the same, and one that isn't below another
-apart : (X : Type 0) (m n : ℕ) → (m == m) ≡ true → (m == n) ≡ false → m ≡ n → X
-apart X m n same differs e = absurd (false≢true (sym differs ∙ (ap (λ k. m == k) (sym e) ∙ same)))
+pub one_of : {A : Type 0} (P : A → Type 0) (xs : List A) (y : A) (ys : List A) → AllByRecursion P (xs ++ y ∷ ys) → P y
+one_of P [] y ys all = all.0
+one_of P (x ∷ xs) y ys all = one_of P xs y ys all.1
 
-above : (X : Type 0) (m n : ℕ) → nat_lt m n ≡ false → m < n → X
-above X m n isnt lt = absurd (false≢true (sym isnt ∙ lt-ltb m n lt))
+inputs_are : (c : Parent) (required : List Req) (class : Option (List Dep)) → (asked_gates c required class).inputs ≡ length (asked_flags c required class)
+inputs_are c required None = refl
+inputs_are c required (Some class) = refl
 
-code_said : (some : Bool) (text : List ℕ) → some ≡ not (is_empty text) → well_status some ≡ said_by (Ok text)
-code_said some [] is = ap well_status is
-code_said some (b ∷ bs) is = ap well_status is
+pub within_not_past : (X : Type 0) (q : Query) (number : ℕ) → IsWithin q → IsPast q number → X
+within_not_past X q number within (inl past) = absurd (omega (arith, within.flags, past.0))
+within_not_past X q number within (inr past) = absurd (omega (arith, within.weight, past.1))
 
-module _ (words : List (List ℕ)) (old new : World) (err : Told) (files : new.files ≡ old.files) (tree : old.tree_faults ≤ new.tree_faults) (out : old.out_faults ≤ new.out_faults) (later : err.before ≤ err.now) where
-  ends_well : (status : ℕ) (text : List ℕ) → Reports words old new text → status ≡ said_by (Ok text) → SaysNothing err → Leaves words old new err status
-  ends_well status [] rep code nothing = subst (Leaves words old new err) (sym code) (record {
-    statuses = refl;
-    reports = λ lt. ([], rep, refl, nothing);
-    bad_words = apart _ 0 2 refl refl;
-    fault = apart _ 0 3 refl refl;
-    no_memory = apart _ 0 5 refl refl;
-    not_a_repository = apart _ 0 6 refl refl;
-    limit = apart _ 0 7 refl refl;
-    not_built = apart _ 0 9 refl refl;
-    files = files;
-    tree_later = tree;
-    out_later = out;
-    err_later = later;
-  })
-  ends_well status (b ∷ bs) rep code nothing = subst (Leaves words old new err) (sym code) (record {
-    statuses = refl;
-    reports = λ lt. (b ∷ bs, rep, refl, nothing);
-    bad_words = apart _ 1 2 refl refl;
-    fault = apart _ 1 3 refl refl;
-    no_memory = apart _ 1 5 refl refl;
-    not_a_repository = apart _ 1 6 refl refl;
-    limit = apart _ 1 7 refl refl;
-    not_built = apart _ 1 9 refl refl;
-    files = files;
-    tree_later = tree;
-    out_later = out;
-    err_later = later;
-  })
+covered_not_spent : (X : Type 0) (budget : ℕ) (given : List KnownRecord) (q : Query) (sets : List (List ℕ)) → IsCovered budget given q → IsSpent (gates_of q) budget given sets → X
+covered_not_spent X budget given q sets (inl few) spent =
+    let over = subst (λ n. budget < 2 ^ n) (inputs_are q.case.parent (required_of q) (class_of q)) spent.wide in
+    absurd (omega (arith, few, over))
+covered_not_spent X budget given q sets (inr backed) spent = absurd (spent.none backed.0 backed.1)
 
-  ends_five : (refusal : Refusal) → Refuses words old new refusal → GainsFront err.old err.new (refusal_line refusal) → Leaves words old new err 5
-  ends_five refusal why front = record {
-    statuses = refl;
-    reports = above _ 5 2 refl;
-    bad_words = apart _ 5 2 refl refl;
-    fault = apart _ 5 3 refl refl;
-    no_memory = λ five. (refusal, why, front);
-    not_a_repository = apart _ 5 6 refl refl;
-    limit = apart _ 5 7 refl refl;
-    not_built = apart _ 5 9 refl refl;
-    files = files;
-    tree_later = tree;
-    out_later = out;
-    err_later = later;
-  }
+-- where each query fits, none is refused
+not_past : (X : Type 0) (options : Options) (given : List KnownRecord) (repo : Repo) (place : List ℕ) (number : ℕ) → Fits options given repo
+    → IsRefused options.budget given (queries options repo) (judges.Limit place number) → X
+not_past X options given repo place number fits refused =
+    within_not_past X refused.query number (one_of IsWithin refused.before refused.query refused.behind (subst (AllByRecursion IsWithin) refused.queries_are fits.within)) refused.cause.1
 
-  ends_three : ((path : List ℕ) × Refused words old new err (TreeFailed path)) ⊎ Refused words old new err OutputFailed → Leaves words old new err 3
-  ends_three either = record {
-    statuses = refl;
-    reports = above _ 3 2 refl;
-    bad_words = apart _ 3 2 refl refl;
-    fault = λ three. either;
-    no_memory = apart _ 3 5 refl refl;
-    not_a_repository = apart _ 3 6 refl refl;
-    limit = apart _ 3 7 refl refl;
-    not_built = apart _ 3 9 refl refl;
-    files = files;
-    tree_later = tree;
-    out_later = out;
-    err_later = later;
-  }
+not_spent : (X : Type 0) (options : Options) (given : List KnownRecord) (repo : Repo) (name : QueryName) (sets : List (List ℕ)) → Fits options given repo
+    → IsRefused options.budget given (queries options repo) (judges.Spent name sets) → X
+not_spent X options given repo name sets fits refused =
+    let covered = one_of (IsCovered options.budget given) refused.before refused.query refused.behind (subst (AllByRecursion (IsCovered options.budget given)) refused.queries_are fits.covered) in
+    covered_not_spent X options.budget given refused.query sets covered refused.cause.2
 
-  ends_refused : (refusal : Refusal) → Refuses words old new refusal → SaysLine err (refusal_line refusal) → GainsFront err.old err.new (refusal_line refusal) → Leaves words old new err (refusal_status refusal)
-  ends_refused BadWords why line front = record {
-    statuses = refl;
-    reports = above _ 2 2 refl;
-    bad_words = λ two. (why, line);
-    fault = apart _ 2 3 refl refl;
-    no_memory = apart _ 2 5 refl refl;
-    not_a_repository = apart _ 2 6 refl refl;
-    limit = apart _ 2 7 refl refl;
-    not_built = apart _ 2 9 refl refl;
-    files = files;
-    tree_later = tree;
-    out_later = out;
-    err_later = later;
-  }
-  ends_refused (TreeFailed path) why line front = ends_three (inl (path, (why, line)))
-  ends_refused OutputFailed why line front = ends_three (inr (why, line))
-  ends_refused NoMemory why line front = ends_five NoMemory why front
-  ends_refused (NotARepository path) why line front = record {
-    statuses = refl;
-    reports = above _ 6 2 refl;
-    bad_words = apart _ 6 2 refl refl;
-    fault = apart _ 6 3 refl refl;
-    no_memory = apart _ 6 5 refl refl;
-    not_a_repository = λ six. (path, (why, line));
-    limit = apart _ 6 7 refl refl;
-    not_built = apart _ 6 9 refl refl;
-    files = files;
-    tree_later = tree;
-    out_later = out;
-    err_later = later;
-  }
-  ends_refused (Limit place number) why line front = record {
-    statuses = refl;
-    reports = above _ 7 2 refl;
-    bad_words = apart _ 7 2 refl refl;
-    fault = apart _ 7 3 refl refl;
-    no_memory = apart _ 7 5 refl refl;
-    not_a_repository = apart _ 7 6 refl refl;
-    limit = λ seven. (place, number, (why, line));
-    not_built = apart _ 7 9 refl refl;
-    files = files;
-    tree_later = tree;
-    out_later = out;
-    err_later = later;
-  }
-  ends_refused (NotBuilt place) why line front = record {
-    statuses = refl;
-    reports = above _ 9 2 refl;
-    bad_words = apart _ 9 2 refl refl;
-    fault = apart _ 9 3 refl refl;
-    no_memory = apart _ 9 5 refl refl;
-    not_a_repository = apart _ 9 6 refl refl;
-    limit = apart _ 9 7 refl refl;
-    not_built = λ nine. (place, (why, line));
-    files = files;
-    tree_later = tree;
-    out_later = out;
-    err_later = later;
-  }
+-- where one is past a limit and those before it are covered, all aren't within the limits, and none is spent
+abbrev first : {A : Type 0} → A → List A → A
+first d [] = d
+first d (x ∷ xs) = x
 
-  ends_told : (refusal : Refusal) (status : ℕ) → Refuses words old new refusal → TellsRefusal err refusal status → Leaves words old new err status
-  ends_told refusal status why tells = elim tells.whole [
-    | inl both ↦ subst (Leaves words old new err) (sym both.1) (ends_refused refusal why both.0 tells.front)
-    | inr five ↦ subst (Leaves words old new err) (sym five) (ends_five refusal why tells.front)
-  ]
+abbrev others : {A : Type 0} → List A → List A
+others [] = []
+others (x ∷ xs) = xs
 
-pub leaves : (words : List (List ℕ)) (old new : World) (err : Told) (ending : Ending) (status : ℕ) → Scans words old new ending →
-    IfOk ending (λ some. (status ≡ well_status some) × SaysNothing err) → IfErr ending (λ refusal. TellsRefusal err refusal status) → err.before ≤ err.now → Leaves words old new err status
-leaves words old new err (Ok some) status scans well refused later =
-    let text = scans.reports.0 in
-    ends_well words old new err scans.files scans.tree_later scans.out_later later status text scans.reports.1 (well.0 ∙ code_said some text scans.reports.2) well.1
-leaves words old new err (Err refusal) status scans well refused later =
-    ends_told words old new err scans.files scans.tree_later scans.out_later later refusal status scans.refusal refused
+-- two places in a list are one, or one of them is before the other
+pub meets : {A : Type 0} (P W : A → Type 0) (xs ys : List A) (x y : A) (xs' ys' : List A) → xs ++ x ∷ xs' ≡ ys ++ y ∷ ys' → AllByRecursion P xs → AllByRecursion W ys → P y ⊎ ((x ≡ y) ⊎ W x)
+meets P W [] [] x y xs' ys' e p w = inr (inl (ap (first x) e))
+meets P W [] (z ∷ ys) x y xs' ys' e p w = inr (inr (subst W (sym (ap (first x) e)) w.0))
+meets P W (z ∷ xs) [] x y xs' ys' e p w = inl (subst P (ap (first z) e) p.0)
+meets P W (z ∷ xs) (u ∷ ys) x y xs' ys' e p w = meets P W xs ys x y xs' ys' (ap others e) p.1 w.1
 
--- ---- bad words are told
+one_not_within : (X : Type 0) (options : Options) (given : List KnownRecord) (repo : Repo) → AllByRecursion IsWithin (queries options repo) → IsPastOne options given repo → X
+one_not_within X options given repo within one =
+    within_not_past X one.query one.number (one_of IsWithin one.before one.query one.behind (subst (AllByRecursion IsWithin) one.queries_are within)) one.past
 
-words_bad : (words : List (List ℕ)) (X : Type 0) → is_scan words ≡ false → is_scan words ≡ true → X
-words_bad words X bad good = absurd (false≢true (sym bad ∙ good))
+one_not_spent : (X : Type 0) (options : Options) (given : List KnownRecord) (repo : Repo) (name : QueryName) (sets : List (List ℕ)) → IsPastOne options given repo
+    → IsRefused options.budget given (queries options repo) (judges.Spent name sets) → X
+one_not_spent X options given repo name sets one refused =
+    by (meets (IsCovered options.budget given) IsWithin one.before refused.before one.query refused.query one.behind refused.behind (sym one.queries_are ∙ refused.queries_are) one.covered refused.within)
+  where
+    by : IsCovered options.budget given refused.query ⊎ ((one.query ≡ refused.query) ⊎ IsWithin one.query) → X
+    by (inl covered) = covered_not_spent X options.budget given refused.query sets covered refused.cause.2
+    by (inr (inl same)) = within_not_past X one.query one.number (subst IsWithin (sym same) refused.cause.1) one.past
+    by (inr (inr within)) = within_not_past X one.query one.number within one.past
 
--- by the refusal, or memory was wanted
-or_five : (err : Told) (refusal : Refusal) (status : ℕ) → TellsRefusal err refusal status → (status ≡ refusal_status refusal) ⊎ (status ≡ 5)
-or_five err refusal status tells = elim tells.whole [
-  | inl both ↦ inl both.1
-  | inr five ↦ inr five
-]
+-- what is told, or memory was wanted
+abbrev pub IsSaid : Asked → (told kept : Option FileMap) → ℕ → Type 0
+IsSaid a told kept status =
+    (status ≡ 5) ⊎ ((given : List KnownRecord) × IsGiven a kept given × IfSome told (λ files. Says a.options given (loading (look_of files)) status))
 
-five_only : (status : ℕ) → (status ≡ 5) ⊎ (status ≡ 5) → status ≡ 5
-five_only status (inl e) = e
-five_only status (inr e) = e
+says_loaded : (told : Option FileMap) (options : Options) (given : List KnownRecord) (repo : Repo) (status : ℕ) → IsLoaded told repo → Says options given (Ok repo) status
+    → IfSome told (λ files. Says options given (loading (look_of files)) status)
+says_loaded None options given repo status loaded says = tt
+says_loaded (Some m) options given repo status loaded says = subst (λ r. Says options given r status) (sym loaded) says
 
-bad_refusal : (words : List (List ℕ)) (old new : World) (err : Told) (refusal : Refusal) (status : ℕ) → Refuses words old new refusal → TellsRefusal err refusal status → is_scan words ≡ false → (status ≡ 2) ⊎ (status ≡ 5)
-bad_refusal words old new err BadWords status why tells bad = or_five err BadWords status tells
-bad_refusal words old new err (TreeFailed path) status why tells bad = words_bad words _ bad why.0.scan
-bad_refusal words old new err OutputFailed status why tells bad = words_bad words _ bad why.0.scan
-bad_refusal words old new err NoMemory status why tells bad = inr (five_only status (or_five err NoMemory status tells))
-bad_refusal words old new err (NotARepository path) status why tells bad = words_bad words _ bad why.0.scan
-bad_refusal words old new err (Limit place number) status why tells bad = words_bad words _ bad why.0.scan
-bad_refusal words old new err (NotBuilt place) status why tells bad = words_bad words _ bad why.0.scan
+says_unloaded : (told : Option FileMap) (options : Options) (given : List KnownRecord) (fault : LoadFault) (status : ℕ) → IsUnloaded told fault → (status ≡ unloaded_status fault) ⊎ (status ≡ 5)
+    → IfSome told (λ files. Says options given (loading (look_of files)) status)
+says_unloaded None options given fault status unloaded says = tt
+says_unloaded (Some m) options given fault status unloaded says = subst (λ r. Says options given r status) (sym unloaded) says
 
-pub bad_only : (words : List (List ℕ)) (old new : World) (err : Told) (ending : Ending) (status : ℕ) → Scans words old new ending →
-    IfErr ending (λ refusal. TellsRefusal err refusal status) → is_scan words ≡ false → (status ≡ 2) ⊎ (status ≡ 5)
-bad_only words old new err (Ok some) status scans refused bad = words_bad words _ bad scans.reports.1.entered.scan
-bad_only words old new err (Err refusal) status scans refused bad = bad_refusal words old new err refusal status scans.refusal refused bad
+past_says : (told : Option FileMap) (a : Asked) (given : List KnownRecord) (place : List ℕ) (number status : ℕ) → IsPastLimit told a given place number → (status ≡ 7) ⊎ (status ≡ 5)
+    → IfSome told (λ files. Says a.options given (loading (look_of files)) status)
+past_says told a given place number status (inl unloaded) says = says_unloaded told a.options given _ status unloaded says
+past_says told a given place number status (inr (repo, unjudged)) says =
+    says_loaded told a.options given repo status unjudged.loaded ((λ fits. not_past _ a.options given repo place number fits unjudged.refuses), (λ one. says))
 
--- ---- good words and no fault give what the files say
+spent_says : (told : Option FileMap) (a : Asked) (given : List KnownRecord) (text : List ℕ) (status : ℕ) → IsSpentAt told a given text
+    → IfSome told (λ files. Says a.options given (loading (look_of files)) status)
+spent_says told a given text status at =
+    says_loaded told a.options given at.repo status at.unjudged.loaded
+    ((λ fits. not_spent _ a.options given at.repo at.name at.sets fits at.unjudged.refuses), (λ one. one_not_spent _ a.options given at.repo at.name at.sets one at.unjudged.refuses))
 
-abbrev Says : Option FileMap → ℕ → Type 0
-Says told status = IfSome told (λ files. (status ≡ said_by (scan_of (look_of files))) ⊎ (status ≡ 5))
+-- words are one scan at most
+abbrev asked_of : Asked → Command → Asked
+asked_of other (commands.Scan root certs fresh options) = record { root = root; file = certs; fresh = fresh; options = options }
+asked_of other (commands.Verify root certs report options) = other
+asked_of other (commands.Session root options) = other
+asked_of other (commands.Demo number) = other
 
-says_text : (told : Option FileMap) (text : List ℕ) (status : ℕ) → IsText told text → status ≡ said_by (Ok text) → Says told status
-says_text None text status is code = tt
-says_text (Some m) text status is code = inl (code ∙ sym (ap said_by is))
+one_scan : IsOneCommand → (words : List (List ℕ)) (a b : Asked) → AsksFor words a → AsksFor words b → a ≡ b
+one_scan law words a b asks asked =
+    ap (asked_of a) (law words (commands.Scan a.root a.file a.fresh a.options) (commands.Scan b.root b.file b.fresh b.options) asks asked)
 
-says_five : (told : Option FileMap) (status : ℕ) → status ≡ 5 → Says told status
-says_five None status five = tt
-says_five (Some m) status five = inr five
+module _ (law : IsOneCommand) (words : List (List ℕ)) (old new : World) (a : Asked) (asks : AsksFor words a) (status : ℕ) where
+  said : (b : Asked) (given : List KnownRecord) → Entered words b given old new → IfSome old.files (λ files. Says b.options given (loading (look_of files)) status) → IsSaid a old.files old.kept status
+  said b given entered says = subst (λ (x : Asked). IsSaid x old.files old.kept status) (one_scan law words b a entered.asked asks) (inr (given, entered.given_are, says))
 
-says_refused : (told : Option FileMap) (refusal : Refusal) (status : ℕ) → IsRefused told refusal → (status ≡ refusal_status refusal) ⊎ (status ≡ 5) → Says told status
-says_refused None refusal status is code = tt
-says_refused (Some m) refusal status is (inl code) = inl (code ∙ sym (ap said_by is))
-says_refused (Some m) refusal status is (inr five) = inr five
+  module _ (tree : Rose old.tree_faults new.tree_faults → ⊥) (store : Rose old.store_faults new.store_faults → ⊥) (out : Rose old.out_faults new.out_faults → ⊥) where
+    refused_says : (err : Told) (refusal : Refusal) → ScanRefuses words old new refusal → TellsRefusal err refusal status → IsSaid a old.files old.kept status
+    refused_says err BadWords why tells = absurd why
+    refused_says err (TreeFailed path) why tells = absurd (tree why.why.0)
+    refused_says err (StoreFailed path) (inl why) tells = absurd (store why.why.1)
+    refused_says err (StoreFailed path) (inr why) tells = absurd (store why.why.1.0)
+    refused_says err OutputFailed why tells = absurd (out why.why.0)
+    refused_says err (Spent text) why tells = said why.asked why.given why.entered (spent_says old.files why.asked why.given text status why.why.1)
+    refused_says err NoMemory why tells = inl (five_only status (or_five err NoMemory status tells))
+    refused_says err (NotARepository path) why tells =
+        said why.asked why.given why.entered (says_unloaded old.files why.asked.options why.given _ status why.why.1.1 (or_five err (NotARepository path) status tells))
+    refused_says err (Limit place number) why tells =
+        said why.asked why.given why.entered (past_says old.files why.asked why.given place number status why.why.1 (or_five err (Limit place number) status tells))
 
-refused_says : (words : List (List ℕ)) (old new : World) (err : Told) (refusal : Refusal) (status : ℕ) → Refuses words old new refusal → TellsRefusal err refusal status → is_scan words ≡ true →
-    (Rose old.tree_faults new.tree_faults → ⊥) → (Rose old.out_faults new.out_faults → ⊥) → Says old.files status
-refused_says words old new err BadWords status why tells good tree out = words_bad words _ why.0 good
-refused_says words old new err (TreeFailed path) status why tells good tree out = absurd (tree why.1)
-refused_says words old new err OutputFailed status why tells good tree out = absurd (out why.2)
-refused_says words old new err NoMemory status why tells good tree out = says_five old.files status (five_only status (or_five err NoMemory status tells))
-refused_says words old new err (NotARepository path) status why tells good tree out = says_refused old.files (NotARepository path) status why.3 (or_five err (NotARepository path) status tells)
-refused_says words old new err (Limit place number) status why tells good tree out = says_refused old.files (Limit place number) status why.3 (or_five err (Limit place number) status tells)
-refused_says words old new err (NotBuilt place) status why tells good tree out = says_refused old.files (NotBuilt place) status why.3 (or_five err (NotBuilt place) status tells)
+    by_why : (err : Told) (refusal : Refusal) → IsWhy old new (ScanRefuses words old new) refusal → TellsRefusal err refusal status → IsSaid a old.files old.kept status
+    by_why err refusal (inl none) tells = inl (five_only status (or_five err NoMemory status (subst (λ r. TellsRefusal err r status) none.1 tells)))
+    by_why err refusal (inr why) tells = refused_says err refusal why tells
 
-pub complete : (words : List (List ℕ)) (old new : World) (err : Told) (ending : Ending) (status : ℕ) → Scans words old new ending →
-    IfOk ending (λ some. (status ≡ well_status some) × SaysNothing err) → IfErr ending (λ refusal. TellsRefusal err refusal status) → is_scan words ≡ true →
-    (Rose old.tree_faults new.tree_faults → ⊥) → (Rose old.out_faults new.out_faults → ⊥) → Says old.files status
-complete words old new err (Ok some) status scans well refused good tree out =
-    says_text old.files scans.reports.0 status scans.reports.1.is_text (well.0 ∙ code_said some scans.reports.0 scans.reports.2)
-complete words old new err (Err refusal) status scans well refused good tree out = refused_says words old new err refusal status scans.refusal refused good tree out
+    by_ends : (err : Told) (ending : Ending) → Ends old new (Reports words old new) (ScanRefuses words old new) ending →
+        IfOk ending (λ some. (status ≡ well_status some) × SaysNothing err) → IfErr ending (λ refusal. TellsRefusal err refusal status) → IsSaid a old.files old.kept status
+    by_ends err (Ok some) ends well refused =
+        let r = ends.done in
+        said r.asked r.given r.entered
+        (says_loaded old.files r.asked.options r.given r.repo status r.answered.loaded ((λ fits. inl (well.0 ∙ r.status_is)), (λ one. one_not_within _ r.asked.options r.given r.repo r.answered.within one)))
+    by_ends err (Err refusal) ends well refused = by_why err refusal ends.refusal refused
+
+    pub complete : (err : Told) (ending : Ending) → Performs words old new ending →
+        IfOk ending (λ some. (status ≡ well_status some) × SaysNothing err) → IfErr ending (λ refusal. TellsRefusal err refusal status) → IsSaid a old.files old.kept status
+    complete err ending performs well refused = by_ends err ending (scan_ends words old new a asks ending performs) well refused

@@ -1,15 +1,10 @@
-mod Examples
-mod Worlds
-pub mod AssignmentLemmas
-pub mod CaseLemmas
+pub mod AnswerLemmas
+pub mod AskingLemmas
 pub mod Endings
-pub mod FirstFailing
 pub mod Gains
-pub mod Meets
-pub mod Members
-pub mod Mentions
-pub mod QueryLemmas
+pub mod Leaving
+pub mod Performed
 pub mod Scanned
-pub mod UseAskedLemmas
-pub mod Utf8Tests
-pub mod WitnessLemmas
+pub mod Summed
+pub mod Verified
+pub mod VerifyEndings

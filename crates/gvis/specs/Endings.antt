@@ -1,9 +1,9 @@
 -- How a run ends: its status, and the line that says why there is no answer.
-use Rattle.std.specs.Prelude.{◌≡◌, ℕ, nat_lt, ◌==◌, List, [], ◌∷◌, ◌++◌, Bool, ◌||◌, Option, take, codes, decimal, if◌then◌else◌, ◌⊎◌}
+use Rattle.std.specs.Prelude.{◌≡◌, ℕ, nat_lt, List, [], ◌∷◌, ◌++◌, Bool, Option, take, codes, decimal, if◌then◌else◌, ◌⊎◌}
 use Rattle.gv_base.specs.Causes.{Rose}
 use Rattle.gv_base.specs.Outside.{gains}
 use Rattle.gvis.specs.declared.refusal.Refusal.{Refusal}
-use Rattle.gvis.specs.declared.refusal.Refusal.TheVariants.{BadWords, TreeFailed, OutputFailed, NoMemory, NotARepository, Limit, NotBuilt}
+use Rattle.gvis.specs.declared.refusal.Refusal.TheVariants.{BadWords, TreeFailed, StoreFailed, OutputFailed, Spent, NoMemory, NotARepository, Limit}
 
 -- 0 without reports, 1 with some
 abbrev pub well_status : Bool → ℕ
@@ -12,24 +12,26 @@ well_status some = if some then 1 else 0
 abbrev pub refusal_status : Refusal → ℕ
 refusal_status BadWords = 2
 refusal_status (TreeFailed path) = 3
+refusal_status (StoreFailed path) = 3
 refusal_status OutputFailed = 3
+refusal_status (Spent name) = 4
 refusal_status NoMemory = 5
 refusal_status (NotARepository path) = 6
 refusal_status (Limit place number) = 7
-refusal_status (NotBuilt place) = 9
 
 -- no run ends with another status
 abbrev pub is_status : ℕ → Bool
-is_status status = nat_lt status 4 || (status == 5 || (status == 6 || (status == 7 || status == 9)))
+is_status status = nat_lt status 8
 
 abbrev pub refusal_text : Refusal → List ℕ
 refusal_text BadWords = codes "gvis: bad command line"
 refusal_text (TreeFailed path) = codes "gvis: fault: tree " ++ path
+refusal_text (StoreFailed path) = codes "gvis: fault: store " ++ path
 refusal_text OutputFailed = codes "gvis: fault: output"
+refusal_text (Spent name) = codes "gvis: budget spent: " ++ name
 refusal_text NoMemory = codes "gvis: out of memory"
 refusal_text (NotARepository path) = codes "gvis: not a repository: " ++ path
 refusal_text (Limit place number) = codes "gvis: limit: " ++ (place ++ (codes " " ++ decimal number))
-refusal_text (NotBuilt place) = codes "gvis: not built: " ++ place
 
 -- with its line feed
 abbrev pub refusal_line : Refusal → List ℕ

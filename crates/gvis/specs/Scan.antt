@@ -1,45 +1,64 @@
--- What a scan says of the files.
-use Rattle.std.specs.Prelude.{◌≡◌, ℕ, List, [], ◌∷◌, Option, Some, None, Result, Ok, Err, IfSome}
+-- What a scan says of the files under options.
+use Rattle.std.specs.Prelude.{◌≡◌, ◌⊎◌, ℕ, ◌≤◌, ◌^◌, List, [], ◌∷◌, ◌++◌, length, Option, Result, Ok, Err, IfSome}
+use Rattle.std.specs.List.{AllByRecursion}
 use Rattle.gv_base.specs.FileMap.{FileMap}
+use Rattle.gv_cert.specs.Records.{KnownRecord}
 use Rattle.gv_load.specs.declared.faults.LoadFault.{LoadFault}
-use Rattle.gv_load.specs.declared.faults.LoadFault.TheVariants as faults
+use Rattle.gv_load.specs.declared.faults.LoadFault.TheVariants as loads
 use Rattle.gv_load.specs.declared.loading.Repo.{Repo}
 use Rattle.gv_load.specs.Loading.{loading}
-use Rattle.gv_load.specs.Look.{Look, look_of}
-use Rattle.gvis.specs.declared.refusal.Refusal.{Refusal}
-use Rattle.gvis.specs.declared.refusal.Refusal.TheVariants.{TreeFailed, NoMemory, NotARepository, Limit, NotBuilt}
-use Rattle.gvis.specs.Endings.{refusal_status}
-use Rattle.gvis.specs.RepoReports.{scan_text, first_untried}
+use Rattle.gv_load.specs.Look.{look_of}
+use Rattle.gv_report.specs.declared.options.Options.{Options}
+use Rattle.gv_checks.specs.Certs.{HasBacked}
+use Rattle.gv_checks.specs.Limits.{IsPast, IsWithin, Refuses}
+use Rattle.gv_checks.specs.Queries.{Query, flags_of, gates_of, queries}
+use Rattle.gv_checks.specs.RepoReports.{scan_text}
+use Rattle.gv_checks.specs.declared.fault.JudgeFault.{JudgeFault}
 
--- a tree that wasn't loaded
-abbrev pub unloaded : LoadFault → Refusal
-unloaded (faults.Tree path) = TreeFailed path
-unloaded (faults.NotARepository path) = NotARepository path
-unloaded (faults.Limit place number) = Limit place number
-unloaded faults.NoMemory = NoMemory
+-- this is the repository, where the files are told
+abbrev pub IsLoaded : Option FileMap → Repo → Type 0
+IsLoaded told repo = IfSome told (λ files. loading (look_of files) ≡ Ok repo)
 
-abbrev pub unless_untried : Option (List ℕ) → List ℕ → Result (List ℕ) Refusal
-unless_untried None text = Ok text
-unless_untried (Some place) text = Err (NotBuilt place)
+-- loading is refused so, where the files are told
+abbrev pub IsUnloaded : Option FileMap → LoadFault → Type 0
+IsUnloaded told fault = IfSome told (λ files. loading (look_of files) ≡ Err fault)
 
-abbrev pub judged : Result Repo LoadFault → Result (List ℕ) Refusal
-judged (Ok repo) = unless_untried (first_untried repo) (scan_text repo)
-judged (Err fault) = Err (unloaded fault)
-
--- the text of the reports; or the first refusal of loading, or else the first query that isn't tried
-unfoldable pub scan_of : Look → Result (List ℕ) Refusal
-scan_of look = judged (loading look)
+-- a repository that was loaded, of whose queries the first that is refused is refused so, where these records are given
+pub record IsUnjudged (told : Option FileMap) (options : Options) (given : List KnownRecord) (repo : Repo) (fault : JudgeFault) : Type 0 where
+  pub loaded : IsLoaded told repo
+  pub refuses : Refuses options.budget given (queries options repo) fault
 
 -- the status that says so: 0 for no text, 1 for some
-abbrev pub said_by : Result (List ℕ) Refusal → ℕ
-said_by (Ok []) = 0
-said_by (Ok (b ∷ bs)) = 1
-said_by (Err refusal) = refusal_status refusal
+abbrev pub said_by : List ℕ → ℕ
+said_by [] = 0
+said_by (b ∷ bs) = 1
 
--- this is the text of the scan, where the files are told
-abbrev pub IsText : Option FileMap → List ℕ → Type 0
-IsText told text = IfSome told (λ files. scan_of (look_of files) ≡ Ok text)
+abbrev pub unloaded_status : LoadFault → ℕ
+unloaded_status (loads.Tree path) = 3
+unloaded_status (loads.NotARepository path) = 6
+unloaded_status (loads.Limit place number) = 7
+unloaded_status loads.NoMemory = 5
 
--- the scan is refused so, where the files are told
-abbrev pub IsRefused : Option FileMap → Refusal → Type 0
-IsRefused told refusal = IfSome told (λ files. scan_of (look_of files) ≡ Err refusal)
+-- a query has no more sets of flags than the budget, or a given record of it is backed: it can't be refused by the budget
+abbrev pub IsCovered : (budget : ℕ) → (given : List KnownRecord) → Query → Type 0
+IsCovered budget given q = (2 ^ length (flags_of q) ≤ budget) ⊎ HasBacked given (gates_of q)
+
+-- Where no query can be refused: each is within the limits and covered.
+pub record Fits (options : Options) (given : List KnownRecord) (repo : Repo) : Type 0 where
+  pub within : AllByRecursion IsWithin (queries options repo)
+  pub covered : AllByRecursion (IsCovered options.budget given) (queries options repo)
+
+-- where a query is past a limit, and each before it is covered
+pub record IsPastOne (options : Options) (given : List KnownRecord) (repo : Repo) : Type 0 where
+  pub before : List Query
+  pub query : Query
+  pub behind : List Query
+  pub queries_are : queries options repo ≡ before ++ query ∷ behind
+  pub covered : AllByRecursion (IsCovered options.budget given) before
+  pub number : ℕ
+  pub past : IsPast query number
+
+-- the status of a scan to which these records are given and in which nothing outside fails; or memory is wanted
+abbrev pub Says : Options → (given : List KnownRecord) → Result Repo LoadFault → ℕ → Type 0
+Says options given (Ok repo) status = (Fits options given repo → (status ≡ said_by (scan_text options repo)) ⊎ (status ≡ 5)) × (IsPastOne options given repo → (status ≡ 7) ⊎ (status ≡ 5))
+Says options given (Err fault) status = (status ≡ unloaded_status fault) ⊎ (status ≡ 5)

@@ -3,37 +3,34 @@
 
 ghost use Rattle.std.specs.Prelude.{◌≡◌};
 
-mod assignment;
+mod answering;
+mod asking;
 #[cfg(test)]
 mod atom_tests;
-mod classes;
-mod holds;
-mod items;
-mod judged;
-mod judging;
-mod least;
-mod meeting;
+mod fetching;
+mod naming;
 mod output;
-mod queries;
 mod real;
 mod refusal;
 #[cfg(test)]
 mod refusal_tests;
+mod replacing;
 #[cfg(test)]
 mod report_tests;
-mod reporting;
-mod required;
+#[cfg(test)]
+mod rescan_tests;
 #[cfg(test)]
 mod run_script;
 mod running;
 mod scanning;
+mod summing;
 mod telling;
-mod untried;
-mod use_asked;
-mod words;
+mod verdict;
+#[cfg(test)]
+mod verify_tests;
+mod verifying;
 
 use gv_base::{Ledger, NoMemory, Steps, Text, Texts};
-pub use judging::{JudgeFault, report_text};
 use real::{FsStore, FsTree, StdSink, StdSource};
 pub use refusal::Refusal;
 pub use running::run;

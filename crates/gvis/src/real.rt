@@ -5,6 +5,7 @@
 ghost use Rattle.std.specs.Prelude.{◌≡◌, ◌≤◌, ◌<◌, ◌^◌, length, IfOk, [], None, Some};
 ghost use Rattle.gv_base.specs.Outside.{HasAtMost, most_file_bytes};
 
+use crate::replacing::replace_file;
 use gv_base::{
     Failed, Found, MAX_FILE_BYTES, NoMemory, Sink, SinkFault, Source, Store, StoreFault, Text,
     Texts, Tree, TreeFault,
@@ -24,7 +25,7 @@ pub struct FsTree<R: Files + AllocGlobal + Clone + Drop> {
 
 /// Files of the system, by their paths.
 #[derive(Drop)]
-pub struct FsStore<R: Files + Drop> {
+pub struct FsStore<R: Files + AllocGlobal + Drop> {
     rt: R,
     faults: u64,
 }
@@ -58,7 +59,7 @@ impl<R: Files + AllocGlobal + Clone + Drop> FsTree<R> {
     }
 }
 
-impl<R: Files + Drop> FsStore<R> {
+impl<R: Files + AllocGlobal + Drop> FsStore<R> {
     /// All files, none of which has failed yet.
     pub fn new(rt: R) -> Self
         ensures rt { result.rt ≡ rt }
@@ -90,14 +91,14 @@ impl<W: Write + Drop> StdSink<W> {
 
 // How a call of the system failed.
 #[derive(Clone, Copy, PartialEq, Eq)]
-enum Trouble {
+pub(crate) enum Trouble {
     NotThere,
     TooLarge,
     NoMemory,
     Other,
 }
 
-fn trouble_of(e: &io::Error) -> Trouble {
+pub(crate) fn trouble_of(e: &io::Error) -> Trouble {
     match e.kind() {
         ErrorKind::NotFound | ErrorKind::NotADirectory => Trouble::NotThere,
         ErrorKind::OutOfMemory => Trouble::NoMemory,
@@ -146,6 +147,19 @@ fn look<R: Files>(rt: &R, alloc: Global, path: &str) -> Result<Found, Trouble>
         return Err(Trouble::Other);
     }
     Ok(Found::File(read_file(rt, alloc, path, MAX_FILE_BYTES)?))
+}
+
+// The bytes of a file, links followed. What is neither a file nor a folder, as a pipe or a device, counts as no file: it may
+// take certificates, and has none that reading would come to the end of.
+fn stored<R: Files>(rt: &R, alloc: Global, path: &str) -> Result<Option<Text>, Trouble> {
+    let metadata = fs::metadata(rt, path).map_err(|e| trouble_of(&e))?;
+    if metadata.is_dir() {
+        return Err(Trouble::Other);
+    }
+    if !metadata.is_file() {
+        return Ok(None);
+    }
+    Ok(Some(read_file(rt, alloc, path, 1 << 62)?))
 }
 
 fn names<R: Files + AllocGlobal + Clone + Drop>(
@@ -214,18 +228,18 @@ impl<R: Files + AllocGlobal + Clone + Drop> Tree for FsTree<R> {
     }
 }
 
-impl<R: Files + Drop> Store for FsStore<R> {
+impl<R: Files + AllocGlobal + Drop> Store for FsStore<R> {
     ghost files = { λ _. None };
 
     ghost faults = { λ s. s.faults };
 
     fn fetch(&mut self, alloc: Global, path: &Text) -> Result<Option<Text>, StoreFault> {
         let found = match std::str::from_utf8(path.bytes()) {
-            Ok(path) => read_file(&self.rt, alloc, path, 1 << 62),
+            Ok(path) => stored(&self.rt, alloc, path),
             Err(_) => Err(Trouble::Other),
         };
         match found {
-            Ok(text) => Ok(Some(text)),
+            Ok(bytes) => Ok(bytes),
             Err(Trouble::NotThere) => Ok(None),
             Err(Trouble::NoMemory) => Err(StoreFault::NoMemory),
             Err(_) => {
@@ -235,17 +249,15 @@ impl<R: Files + Drop> Store for FsStore<R> {
         }
     }
 
-    fn replace(&mut self, _alloc: Global, path: &Text, bytes: &Text) -> Result<(), StoreFault> {
-        let Ok(path) = std::str::from_utf8(path.bytes()) else {
-            self.faults = self.faults.saturating_add(1);
-            return Err(StoreFault::Failed);
+    fn replace(&mut self, alloc: Global, path: &Text, bytes: &Text) -> Result<(), StoreFault> {
+        let replaced = match std::str::from_utf8(path.bytes()) {
+            Ok(path) => replace_file(&self.rt, alloc, path, bytes.bytes()),
+            Err(_) => Err(Trouble::Other),
         };
-        match fs::write(&self.rt, path, bytes.bytes()) {
+        match replaced {
             Ok(()) => Ok(()),
-            Err(e) => {
-                if trouble_of(&e) == Trouble::NoMemory {
-                    return Err(StoreFault::NoMemory);
-                }
+            Err(Trouble::NoMemory) => Err(StoreFault::NoMemory),
+            Err(_) => {
                 self.faults = self.faults.saturating_add(1);
                 Err(StoreFault::Failed)
             }

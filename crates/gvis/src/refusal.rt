@@ -1,5 +1,5 @@
 //! Why a run has no answer.
-use gv_base::Text;
+use gv_base::{NoMemory, Text};
 
 /// Why a run has no answer.
 #[derive(Drop)]
@@ -8,13 +8,26 @@ pub enum Refusal {
     BadWords,
     /// The tree failed at this path.
     TreeFailed { path: Text },
+    /// The store failed at this path.
+    StoreFailed { path: Text },
     /// The output failed.
     OutputFailed,
+    /// The budget was spent at this query: CATEGORY/PF CLASS ARCH PATH LEVEL.
+    Spent { name: Text },
     NoMemory,
     /// The path has to be a file, and isn't.
     NotARepository { path: Text },
     /// A limit, with its number, is passed at a place.
     Limit { place: Text, number: u64 },
-    /// A question on this package is beyond what is answered today.
-    NotBuilt { place: Text },
+}
+
+impl From<NoMemory> for Refusal {
+    ghost use Rattle.std.specs.Prelude.{◌≡◌};
+    ghost use Rattle.gvis.specs.declared.refusal.Refusal.TheVariants.{NoMemory};
+
+    ghost from_gives = { λ _ refusal. refusal ≡ NoMemory };
+
+    fn from(_: NoMemory) -> Self {
+        Refusal::NoMemory
+    }
 }

@@ -1,9 +1,9 @@
-//! Runs that end without an answer: what isn't built, what is no repository, limits, bad words, faults of the tree.
+//! Runs that end without an answer: what is no repository, limits, spent budgets, bad words, faults of the tree and of the store.
 use crate::run_script::{Script, append, begin, expect, perform, put, text};
 use std::alloc::Global;
 use std::process::Abort;
 
-// What is no repository, and each query that isn't tried.
+// What is no repository, and what is passed over.
 fn refusals() -> &'static [u8] {
     b"# no profiles.desc\n\
 new\n\
@@ -18,43 +18,6 @@ new\n\
 @profiles/categories/x\n\
 ! gvis: not a repository: profiles/categories\n\
 = 6\n\
-# an atom asks for a flag\n\
-new\n\
-@profiles/profiles.desc\n\
-|amd64 base stable\n\
-@profiles/categories\n\
-|app\n\
-|x\n\
-@profiles/base/eapi\n\
-|8\n\
-%app p 1\n\
-|EAPI=8\n\
-|SLOT=0\n\
-|KEYWORDS=amd64\n\
-|RDEPEND=|| ( a? ( x/y[b] ) )\n\
-! gvis: not built: app/p-1\n\
-= 9\n\
-# an earlier one has a broken REQUIRED_USE\n\
-%app p 0.9\n\
-|EAPI=8\n\
-|SLOT=0\n\
-|KEYWORDS=amd64\n\
-|REQUIRED_USE=(\n\
-|IDEPEND=x/y[b(+)]\n\
-! gvis: not built: app/p-1\n\
-= 9\n\
-# an earlier one asks for a flag\n\
-%app p 0.9\n\
-|EAPI=8\n\
-|SLOT=0\n\
-|KEYWORDS=~amd64\n\
-|IDEPEND=x/y[b(+)]\n\
-! gvis: not built: app/p-0.9\n\
-= 9\n\
-# none of them is judged\n\
-@profiles/package.mask\n\
-|<=app/p-1\n\
-= 0\n\
 # names that are no PF, and broken classes\n\
 new\n\
 @profiles/profiles.desc\n\
@@ -84,7 +47,6 @@ new\n\
 |KEYWORDS=amd64\n\
 |RDEPEND=x/y[b]\n\
 = 0\n\
-# thirteen flags\n\
 new\n\
 @profiles/profiles.desc\n\
 |amd64 base stable\n\
@@ -93,15 +55,6 @@ new\n\
 |x\n\
 @profiles/base/eapi\n\
 |8\n\
-%app p 1\n\
-|EAPI=8\n\
-|SLOT=0\n\
-|KEYWORDS=amd64\n\
-|IUSE=a b c d e f g h i j k l m\n\
-|REQUIRED_USE=|| ( a b c d e f )\n\
-|RDEPEND=g? ( ) h? ( ) i? ( ) j? ( ) k? ( ) l? ( ) !m? ( )\n\
-! gvis: not built: app/p-1\n\
-= 9\n\
 # a broken REQUIRED_USE\n\
 %app p 1\n\
 |EAPI=8\n\
@@ -247,10 +200,22 @@ $ scan R --certs\n\
 $ scan R S --certs C\n\
 ! gvis: bad command line\n\
 = 2\n\
-$ scan --certs C R\n\
+$ scan R --certs C --fresh --fresh\n\
 ! gvis: bad command line\n\
 = 2\n\
-$ scan --certs=C R\n\
+$ scan R --certs C --budget 0\n\
+! gvis: bad command line\n\
+= 2\n\
+$ scan R --certs C --keywords None\n\
+! gvis: bad command line\n\
+= 2\n\
+$ verify R --certs C --report P --fresh\n\
+! gvis: bad command line\n\
+= 2\n\
+$ session R\n\
+! gvis: bad command line\n\
+= 2\n\
+$ demo 01\n\
 ! gvis: bad command line\n\
 = 2\n\
 $ scan  --certs C\n\
@@ -378,14 +343,120 @@ t 27\n\
 = 0\n"
 }
 
+// A REQUIRED_USE that no assignment meets, which takes more than two sets to rule out.
+fn spent() -> &'static [u8] {
+    b"# the budget is spent\n\
+new\n\
+@profiles/profiles.desc\n\
+|amd64 base stable\n\
+@profiles/categories\n\
+|app\n\
+|x\n\
+@profiles/base/eapi\n\
+|8\n\
+%app p 1\n\
+|EAPI=8\n\
+|SLOT=0\n\
+|KEYWORDS=amd64\n\
+|IUSE=a b c\n\
+|REQUIRED_USE=|| ( a b c ) || ( a b !c ) || ( a !b c ) || ( a !b !c ) || ( !a b c ) || ( !a b !c ) || ( !a !b c ) || ( !a !b !c )\n\
+$ scan R --certs C --budget 2\n\
+! gvis: budget spent: app/p-1 REQUIRED_USE amd64 base stable\n\
+= 4\n\
+# the budget is enough\n\
+$ scan --budget=8 --fresh --certs=C --keywords=UnsatisfiableRequiredUse R\n\
+> app/p-1: UnsatisfiableRequiredUse: amd64 base stable: || ( a b c ) || ( a b !c ) || ( a !b c ) || ( a !b !c ) || ( !a b c ) || ( !a b !c ) || ( !a !b c ) || ( !a !b !c )\n\
+= 1\n\
+# no query\n\
+$ scan --certs C --keywords VisibleVcsPkg R\n\
+f 10\n\
+= 0\n"
+}
+
+// The store's calls fail in turn, alone and where the tree fails too: the certificates are fetched before the tree is read, or
+// with --fresh not at all, and replaced behind that.
+fn stores() -> &'static [u8] {
+    b"# the file isn't given\n\
+new\n\
+s 1\n\
+! gvis: fault: store C\n\
+= 3\n\
+# there is no repository either\n\
+$ scan R --certs C --fresh\n\
+s 1\n\
+! gvis: not a repository: profiles/profiles.desc\n\
+= 6\n\
+# the words are bad\n\
+$ scan R\n\
+s 1\n\
+! gvis: bad command line\n\
+= 2\n\
+@profiles/profiles.desc\n\
+|amd64 base stable\n\
+@profiles/categories\n\
+|app\n\
+|x\n\
+@profiles/base/eapi\n\
+|8\n\
+%app p 1\n\
+|EAPI=8\n\
+|SLOT=0\n\
+|KEYWORDS=amd64\n\
+|RDEPEND=x/y\n\
+# both fail\n\
+t 1\n\
+s 1\n\
+! gvis: fault: store C\n\
+= 3\n\
+# fresh, the tree alone fails\n\
+$ scan R --certs C --fresh\n\
+t 1\n\
+s 1\n\
+! gvis: fault: tree profiles/profiles.desc\n\
+= 3\n\
+# the tree fails, and the store would behind it\n\
+t 1\n\
+s 2\n\
+! gvis: fault: tree profiles/profiles.desc\n\
+= 3\n\
+# the file isn't taken\n\
+s 2\n\
+! gvis: fault: store C\n\
+= 3\n\
+# fresh, the file isn't taken\n\
+$ scan R --certs C --fresh\n\
+s 1\n\
+! gvis: fault: store C\n\
+= 3\n\
+# no third call\n\
+s 3\n\
+> app/p-1: NonsolvableDepsInStable: RDEPEND: amd64 base stable: USE=\"\": x/y\n\
+= 1\n\
+# fresh, no second call\n\
+$ scan R --certs C --fresh --keywords NonsolvableDepsInStable\n\
+s 2\n\
+> app/p-1: NonsolvableDepsInStable: RDEPEND: amd64 base stable: USE=\"\": x/y\n\
+= 1\n"
+}
+
+#[test]
+fn reads_the_store_before_the_tree_and_replaces_behind_it(rt: HostRuntime) {
+    perform(&rt, rt.alloc(), stores(), 10);
+}
+
+#[test]
+fn tells_the_query_at_which_the_budget_is_spent(rt: HostRuntime) {
+    perform(&rt, rt.alloc(), spent(), 3);
+}
+
 #[test]
 fn refuses_at_the_first_place(rt: HostRuntime) {
-    perform(&rt, rt.alloc(), refusals(), 13);
+    perform(&rt, rt.alloc(), refusals(), 8);
 }
 
 #[test]
 fn refuses_words_of_another_form(rt: HostRuntime) {
-    perform(&rt, rt.alloc(), wordlists(), 14);
+    perform(&rt, rt.alloc(), wordlists(), 18);
 }
 
 #[test]

@@ -392,7 +392,51 @@ e 2\n\
 m 5\n\
 o 1\n\
 e 1\n\
+= 3\n\
+# out fails in a summary\n\
+$ demo 1\n\
+m 5\n\
+o 2\n\
+> packa~\n\
+! gvis: fault: output\n\
 = 3\n"
+}
+
+// All keywords, as lines and as JSON, and what options leave out.
+fn keywords() -> &'static [u8] {
+    b"# all keywords\n\
+new\n\
+@profiles/profiles.desc\n\
+|amd64 base stable\n\
+|x86 base dev\n\
+@profiles/categories\n\
+|app\n\
+|x\n\
+@profiles/base/eapi\n\
+|8\n\
+%app p 1\n\
+|EAPI=8\n\
+|SLOT=0\n\
+|KEYWORDS=amd64\n\
+|RDEPEND=x/y\n\
+$ scan R --certs C\n\
+> app/p-1: NonexistentDeps: RDEPEND: x/y\n\
+> app/p-1: NonsolvableDepsInStable: RDEPEND: amd64 base stable: USE=\"\": x/y\n\
+= 1\n\
+# as JSON\n\
+$ scan R --certs C --json --profiles base\n\
+> {\"class\":\"RDEPEND\",\"detail\":\"x/y\",\"keyword\":\"NonexistentDeps\",\"package\":\"app/p-1\"}\n\
+> {\"arch\":\"amd64\",\"class\":\"RDEPEND\",\"detail\":\"x/y\",\"keyword\":\"NonsolvableDepsInStable\",\"level\":\"stable\",\"package\":\"app/p-1\",\"profile\":\"base\",\"use\":\"\"}\n\
+= 1\n\
+# another profile\n\
+$ scan R --certs C --profiles none --keywords NonsolvableDepsInStable\n\
+f 10\n\
+= 0\n"
+}
+
+#[test]
+fn prints_what_the_options_select(rt: HostRuntime) {
+    perform(&rt, rt.alloc(), keywords(), 3);
 }
 
 #[test]
@@ -420,5 +464,5 @@ fn judges_groups_by_their_members(rt: HostRuntime) {
 
 #[test]
 fn writes_in_pieces_up_to_a_fault(rt: HostRuntime) {
-    perform(&rt, rt.alloc(), pieces(), 4);
+    perform(&rt, rt.alloc(), pieces(), 5);
 }

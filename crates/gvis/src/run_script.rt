@@ -14,23 +14,28 @@ use std::sync::ledger::Blank;
 // What the lines before a run say. `# NAME` names the runs behind it, and is printed where one goes wrong. `@PATH` begins
 // a file and each `|` behind it is a line of it; `%CATEGORY NAME VERSION` begins an entry with the digest of its ebuild,
 // which is empty; `new` takes all files away. `$` has the words, with one space between; without it they are
-// `scan R --certs C`. `m`, `t`, `o` and
+// `scan R --certs C` with the keywords of classes that can't be met. `m`, `t`, `s`, `o` and
 // `e` give the bytes that a sink takes in a call and the numbers of the calls that fail. `>` is a line that stands on
-// out and `!` one on err; `~` at its end says that it has no line feed. `= STATUS` runs, and forgets all
-// but the files.
+// out and `!` one on err; `~` at its end says that it has no line feed. `f` has the number of bytes that the file `C`
+// has afterwards. `= STATUS` runs, and forgets all but the files.
 #[derive(Drop)]
 pub(crate) struct Script {
     pub files: Files,
     name: Text,
     path: Text,
-    words: Text,
+    pub words: Text,
     most: u32,
     tree_fails: u32,
+    store_fails: u32,
+    file_bytes: u32,
     out_fails: u32,
     err_fails: u32,
     pub out: Text,
     pub err: Text,
 }
+
+const WORDS: &[u8] =
+    b"scan R --certs C --keywords NonsolvableDepsInStable,NonsolvableDepsInDev,NonsolvableDepsInExp";
 
 pub(crate) fn text<R: Abort>(rt: &R, alloc: Global, bytes: &[u8]) -> Text {
     Text::of(alloc, bytes).expect(rt, "memory")
@@ -64,9 +69,11 @@ pub(crate) fn begin<R: Abort>(rt: &R, alloc: Global) -> Script {
         files: Files::new(alloc),
         name: text(rt, alloc, b""),
         path: text(rt, alloc, b""),
-        words: text(rt, alloc, b"scan R --certs C"),
+        words: text(rt, alloc, WORDS),
         most: 4096,
         tree_fails: 0,
+        store_fails: 0,
+        file_bytes: 0,
         out_fails: 0,
         err_fails: 0,
         out: text(rt, alloc, b""),
@@ -77,9 +84,11 @@ pub(crate) fn begin<R: Abort>(rt: &R, alloc: Global) -> Script {
 // All but the files and the name.
 fn forget<R: Abort>(rt: &R, alloc: Global, script: &mut Script) {
     script.path = text(rt, alloc, b"");
-    script.words = text(rt, alloc, b"scan R --certs C");
+    script.words = text(rt, alloc, WORDS);
     script.most = 4096;
     script.tree_fails = 0;
+    script.store_fails = 0;
+    script.file_bytes = 0;
     script.out_fails = 0;
     script.err_fails = 0;
     script.out = text(rt, alloc, b"");
@@ -175,6 +184,8 @@ fn take<R: Abort>(rt: &R, alloc: Global, script: &mut Script, line: &[u8]) {
         [b'!', b' ', rest @ ..] => add_output(rt, &mut script.err, rest),
         [b'm', b' ', digits @ ..] => script.most = number(digits),
         [b't', b' ', digits @ ..] => script.tree_fails = number(digits),
+        [b's', b' ', digits @ ..] => script.store_fails = number(digits),
+        [b'f', b' ', digits @ ..] => script.file_bytes = number(digits),
         [b'o', b' ', digits @ ..] => script.out_fails = number(digits),
         [b'e', b' ', digits @ ..] => script.err_fails = number(digits),
         _ => {}
@@ -190,7 +201,7 @@ fn calls<R: Abort>(rt: &R, alloc: Global, number: u32) -> Calls {
 }
 
 // The pieces between spaces, empty ones among them; no word where there is no byte.
-fn split<R: Abort>(rt: &R, alloc: Global, line: &[u8]) -> Texts {
+pub(crate) fn split<R: Abort>(rt: &R, alloc: Global, line: &[u8]) -> Texts {
     let mut words = Texts::new(alloc);
     let mut rest = if line.is_empty() { None } else { Some(line) };
     for _ in 0..10 {
@@ -201,7 +212,7 @@ fn split<R: Abort>(rt: &R, alloc: Global, line: &[u8]) -> Texts {
     words
 }
 
-fn tree_of<R: Abort>(rt: &R, alloc: Global, script: &Script) -> MemTree {
+pub(crate) fn tree_of<R: Abort>(rt: &R, alloc: Global, script: &Script) -> MemTree {
     let files = script.files.copy(alloc).expect(rt, "memory");
     MemTree::new(files, calls(rt, alloc, script.tree_fails))
 }
@@ -210,23 +221,67 @@ fn sink_of<R: Abort>(rt: &R, alloc: Global, most: u32, fails: u32) -> MemSink {
     MemSink::new(alloc, most.max(1), calls(rt, alloc, fails))
 }
 
-// Runs, and compares the status and what stands on out and on err.
-fn run_on<L: Ledger, R: Abort>(rt: &R, alloc: Global, blank: Blank, script: &Script, status: u32)
+// The file of the certificates is replaced where a scan has reports or none were found, and else only where out failed; it
+// then has its header, and as many bytes as are wanted.
+fn compare_file<R: Abort>(rt: &R, script: &Script, before: &[u8], status: u32, file: &[u8]) {
+    if script.file_bytes != 0 {
+        assert_eq!(rt; file.len(), script.file_bytes as usize);
+    }
+    let scanned = script.words.bytes().starts_with(b"scan") && status < 2;
+    if scanned || file != before {
+        assert!(rt; file.starts_with(b"gviscert1\n"));
+        assert!(rt; status < 2 || status == 3);
+    }
+}
+
+// A store with these bytes as the certificates, and without the file where there are none.
+fn store_of<R: Abort>(rt: &R, alloc: Global, script: &Script, before: &[u8]) -> MemStore {
+    let mut files = Files::new(alloc);
+    if !before.is_empty() {
+        put(rt, &mut files, b"C", before);
+    }
+    MemStore::new(files, calls(rt, alloc, script.store_fails))
+}
+
+// Runs over a store, and answers how that ended.
+fn run_on<L: Ledger, R: Abort>(
+    rt: &R,
+    alloc: Global,
+    blank: Blank,
+    script: &Script,
+    store: &mut MemStore,
+) -> Text
     requires name { blank.name ≡ L.name }
     requires parts { blank.parts ≡ L.parts }
     requires two { blank.parts ≡ 2 }
 {
     let words = split(rt, alloc, script.words.bytes());
     let mut tree = tree_of(rt, alloc, script);
-    let mut store = MemStore::new(Files::new(alloc), Calls::new(alloc));
     let mut input = MemSource::new(text(rt, alloc, b""), 1, Calls::new(alloc));
     let mut out = sink_of(rt, alloc, script.most, script.out_fails);
     let mut err = sink_of(rt, alloc, script.most, script.err_fails);
     let mut steps = Steps::<L>::open(blank);
     let got = run(
-        alloc, &words, &mut tree, &mut store, &mut input, &mut out, &mut err, &mut steps,
+        alloc, &words, &mut tree, store, &mut input, &mut out, &mut err, &mut steps,
     );
-    let got = told(rt, alloc, &script.name, got as u32, err.held(), out.held());
+    told(rt, alloc, &script.name, got as u32, err.held(), out.held())
+}
+
+fn run_over<R: Abort>(rt: &R, alloc: Global, script: &Script, store: &mut MemStore) -> Text {
+    run_on::<Brand, R>(rt, alloc, Blank::new(2), script, store)
+}
+
+/// Runs over a store with these certificates, compares the status and what stands on out and on err, and answers the
+/// certificates that the store has then.
+pub(crate) fn expect_over<R: Abort>(
+    rt: &R,
+    alloc: Global,
+    script: &Script,
+    before: &[u8],
+    status: u32,
+) -> Text {
+    let mut store = store_of(rt, alloc, script, before);
+    let got = run_over(rt, alloc, script, &mut store);
     let want = told(
         rt,
         alloc,
@@ -237,10 +292,36 @@ fn run_on<L: Ledger, R: Abort>(rt: &R, alloc: Global, blank: Blank, script: &Scr
     );
     assert_eq!(rt; shown(got.bytes()), shown(want.bytes()));
     assert_eq!(rt; got.bytes(), want.bytes());
+    let file = store.files().get(b"C").unwrap_or(b"".as_slice());
+    compare_file(rt, script, before, status, file);
+    text(rt, alloc, file)
+}
+
+/// Runs over a store with these certificates and this report, each of which is no file where it has no bytes, and answers
+/// the status and what stands on err and on out. The store is left as it is.
+pub(crate) fn told_over<R: Abort>(
+    rt: &R,
+    alloc: Global,
+    script: &Script,
+    certs: &[u8],
+    report: &[u8],
+) -> Text {
+    let mut files = Files::new(alloc);
+    if !certs.is_empty() {
+        put(rt, &mut files, b"C", certs);
+    }
+    if !report.is_empty() {
+        put(rt, &mut files, b"P", report);
+    }
+    let mut store = MemStore::new(files, calls(rt, alloc, script.store_fails));
+    let told = run_over(rt, alloc, script, &mut store);
+    assert_eq!(rt; store.files().get(b"C").unwrap_or(b"".as_slice()), certs);
+    assert_eq!(rt; store.files().get(b"P").unwrap_or(b"".as_slice()), report);
+    told
 }
 
 pub(crate) fn expect<R: Abort>(rt: &R, alloc: Global, script: &Script, status: u32) {
-    run_on::<Brand, R>(rt, alloc, Blank::new(2), script, status);
+    let _ = expect_over(rt, alloc, script, b"", status);
 }
 
 // Performs a line, and answers whether it was a run.
@@ -263,17 +344,29 @@ fn performs<R: Abort>(rt: &R, alloc: Global, script: &mut Script, line: &[u8]) -
     }
 }
 
-// Performs the lines, of which there are these many runs.
-pub(crate) fn perform<R: Abort>(rt: &R, alloc: Global, lines: &[u8], want: u32) {
-    let mut script = begin(rt, alloc);
+// Performs the lines, and answers how many runs there are.
+fn perform_on<R: Abort>(rt: &R, alloc: Global, script: &mut Script, lines: &[u8]) -> u32 {
     let mut runs: u32 = 0;
     let mut rest = Some(lines);
     for _ in 0..1000 {
         if let Some(line) = next_piece(&mut rest, Cut::Lines) {
-            if performs(rt, alloc, &mut script, line) {
+            if performs(rt, alloc, script, line) {
                 runs = runs.saturating_add(1);
             }
         }
     }
-    assert_eq!(rt; runs, want);
+    runs
+}
+
+// Performs the lines, of which there are these many runs.
+pub(crate) fn perform<R: Abort>(rt: &R, alloc: Global, lines: &[u8], want: u32) {
+    let mut script = begin(rt, alloc);
+    assert_eq!(rt; perform_on(rt, alloc, &mut script, lines), want);
+}
+
+/// What lines without a run say of one.
+pub(crate) fn scripted<R: Abort>(rt: &R, alloc: Global, lines: &[u8]) -> Script {
+    let mut script = begin(rt, alloc);
+    let _ = perform_on(rt, alloc, &mut script, lines);
+    script
 }

@@ -1,23 +1,72 @@
 //! The top call: all that the program does, over any outside.
-ghost use Rattle.std.specs.Prelude.{◌≡◌, ◌⊎◌, true, false, IfSome};
+ghost use Rattle.std.specs.Prelude.{◌≡◌, ◌⊎◌, ℕ, List, false, IfSome};
 ghost use Rattle.gv_base.specs.Causes.{Rose};
-ghost use Rattle.gvis.specs.Endings.{told};
+ghost use Rattle.gv_cert.specs.Records.{KnownRecord};
+ghost use Rattle.gv_load.specs.Loading.{loading};
 ghost use Rattle.gv_load.specs.Look.{look_of};
-ghost use Rattle.gvis.specs.Run.{world, Leaves};
-ghost use Rattle.gvis.specs.Scan.{scan_of, said_by};
-ghost use Rattle.gvis.specs.Words.{is_scan};
+ghost use Rattle.gvis.specs.Asking.{AsksFor, AsksForDemo, AsksToVerify, is_job};
+ghost use Rattle.gvis.specs.Endings.{told};
+ghost use Rattle.gvis.specs.Fetching.{IsGiven};
+ghost use Rattle.gvis.specs.Performs.{Leaves, Performs};
+ghost use Rattle.gvis.specs.Run.{world};
+ghost use Rattle.gvis.specs.Scan.{Says};
+ghost use Rattle.gvis.specs.Verify.{IsLeftByScan, VerifySays};
+ghost use Rattle.gvis.specs.declared.asking.Asked.{Asked};
+ghost use Rattle.gvis.specs.declared.asking.Verification.{Verification};
 
+use crate::Refusal;
+use crate::asking::{Job, job_of};
 use crate::scanning::scan;
+use crate::summing::write_summary;
 use crate::telling::tell;
+use crate::verifying::verify_report;
 use gv_base::{Ledger, Sink, Source, Steps, Store, Texts, Tree};
+use gv_cert::file_law;
+use gv_verify::accepted_law;
+use gv_words::command_law;
 use std::alloc::Global;
+
+// Performs the command that the words are. Of a scan, answers whether there are reports; of a verification, whether the
+// report is refused.
+#[tactic(auto, using(crate::proofs::Performed::unbegun, crate::proofs::Performed::bad_words))]
+fn perform<T: Tree, K: Store, S: Sink, L: Ledger>(
+    alloc: Global,
+    words: &Texts,
+    tree: &mut T,
+    store: &mut K,
+    out: &mut S,
+    steps: &mut Steps<L>,
+) -> Result<bool, Refusal>
+    ensures { Performs words.now
+        (world (T.entered tree.old) (T.files tree.old) (T.faults tree.old) (K.files store.old) (K.faults store.old) (S.held out.old) (S.faults out.old) steps.old)
+        (world (T.entered tree.new) (T.files tree.new) (T.faults tree.new) (K.files store.new) (K.faults store.new) (S.held out.new) (S.faults out.new) steps.new)
+        result }
+{
+    match job_of(alloc, words)? {
+        None => Err(Refusal::BadWords),
+        Some(Job::Scan { asked }) => scan(alloc, &asked, tree, store, out, steps),
+        Some(Job::Verify { verification }) => {
+            verify_report(alloc, &verification, tree, store, out, steps)
+        }
+        Some(Job::Demo { number }) => write_summary(alloc, number, out, steps),
+    }
+}
 
 /// Runs the command that the words ask for, and answers the status to end with.
 ///
-/// `words` are the command's words without the program's name: `scan ROOT --certs FILE`. The lines of the reports go to
-/// `out`, and the line of a refusal goes to `err`. The statuses are 0 (no reports), 1 (reports), 2 (bad command line),
-/// 3 (the tree or the output failed), 5 (out of memory), 6 (not a repository), 7 (a limit is passed), 9 (not built).
-/// Store, input and steps are not touched.
+/// `words` are the command's words without the program's name.
+///
+/// - A `scan` takes the certificates that the store holds, where it isn't fresh. Then it reads the repository and judges
+///   it, and a query of which one of these is backed isn't solved; then the store gets the file of the certificates, one
+///   for each distinct query; then the reports go to `out`.
+/// - A `verify` fetches the files of the certificates and of the report, reads the repository, and writes a line to `out`:
+///   whether each query has a certificate that holds and the report is the repository's, or where that fails first.
+///   Nothing is solved, and the store stays as it is.
+/// - A `demo` judges the repository that its number draws, and writes its summary to `out`.
+///
+/// The line of a refusal goes to `err`. The statuses are 0 (no reports; accepted; a summary), 1 (reports; not accepted), 2
+/// (bad command line), 3 (the tree, the store or the output failed), 4 (the budget of a query is spent), 5 (out of
+/// memory), 6 (not a repository), 7 (a limit is passed). The input isn't touched.
 pub fn run<T: Tree, K: Store, I: Source, S: Sink, E: Sink, L: Ledger>(
     alloc: Global,
     words: &Texts,
@@ -30,20 +79,34 @@ pub fn run<T: Tree, K: Store, I: Source, S: Sink, E: Sink, L: Ledger>(
 ) -> u8
     // What it leaves, by the status.
     ensures leaves { Leaves words.now
-        (world (T.entered tree.old) (T.files tree.old) (T.faults tree.old) (S.held out.old) (S.faults out.old))
-        (world (T.entered tree.new) (T.files tree.new) (T.faults tree.new) (S.held out.new) (S.faults out.new))
+        (world (T.entered tree.old) (T.files tree.old) (T.faults tree.old) (K.files store.old) (K.faults store.old) (S.held out.old) (S.faults out.old) steps.old)
+        (world (T.entered tree.new) (T.files tree.new) (T.faults tree.new) (K.files store.new) (K.faults store.new) (S.held out.new) (S.faults out.new) steps.new)
         (told (E.held err.old) (E.held err.new) (E.faults err.old) (E.faults err.new)) result }
 
     // What isn't touched, whatever the status.
-    ensures store { store.new ≡ store.old }
     ensures input { input.new ≡ input.old }
-    ensures steps { steps.new ≡ steps.old }
+    ensures only_read { (v : Verification) → AsksToVerify words.now v → K.files store.new ≡ K.files store.old }
+    ensures unsolved { (v : Verification) → AsksToVerify words.now v → steps.new.solve ≡ steps.old.solve }
 
-    // Bad words are told. Good words and no fault give what the files say.
-    ensures bad_words_only { is_scan words.now ≡ false → (result ≡ 2) ⊎ (result ≡ 5) }
-    ensures complete { is_scan words.now ≡ true → (Rose (T.faults tree.old) (T.faults tree.new) → ⊥) → (Rose (S.faults out.old) (S.faults out.new) → ⊥)
-        → IfSome (T.files tree.old) (λ files. (result ≡ said_by (scan_of (look_of files))) ⊎ (result ≡ 5)) }
+    // Other words are told. Where nothing outside fails, those of a scan give what the files say, those of a verification a
+    // verdict, and those of a demo its summary.
+    ensures bad_words_only { is_job words.now ≡ false → (result ≡ 2) ⊎ (result ≡ 5) }
+    ensures complete { (a : Asked) → AsksFor words.now a → (Rose (T.faults tree.old) (T.faults tree.new) → ⊥) → (Rose (K.faults store.old) (K.faults store.new) → ⊥)
+        → (Rose (S.faults out.old) (S.faults out.new) → ⊥)
+        → (result ≡ 5) ⊎ ((given : List KnownRecord) × IsGiven a (K.files store.old) given × IfSome (T.files tree.old) (λ files. Says a.options given (loading (look_of files)) result)) }
+    ensures complete_verify { (v : Verification) → AsksToVerify words.now v → (Rose (T.faults tree.old) (T.faults tree.new) → ⊥) → (Rose (K.faults store.old) (K.faults store.new) → ⊥)
+        → (Rose (S.faults out.old) (S.faults out.new) → ⊥)
+        → (result ≡ 5) ⊎ IfSome (T.files tree.old) (λ files. VerifySays v (K.files store.old) (loading (look_of files)) result) }
+    ensures complete_demo { (number : ℕ) → AsksForDemo words.now number → (Rose (S.faults out.old) (S.faults out.new) → ⊥) → (result ≡ 0) ⊎ (result ≡ 5) }
+
+    // What a scan left is accepted.
+    ensures accepts_scans { (v : Verification) → AsksToVerify words.now v → IsLeftByScan v (T.files tree.old) (K.files store.old)
+        → (Rose (T.faults tree.old) (T.faults tree.new) → ⊥) → (Rose (K.faults store.old) (K.faults store.new) → ⊥) → (Rose (S.faults out.old) (S.faults out.new) → ⊥)
+        → (result ≡ 0) ⊎ (result ≡ 5) }
 {
-    let ending = scan(alloc, words, tree, out);
+    command_law();
+    file_law();
+    accepted_law();
+    let ending = perform(alloc, words, tree, store, out, steps);
     tell(alloc, &ending, err)
 }

@@ -1,64 +1,44 @@
-//! A scan: reads a repository, judges it and writes the reports. Nothing is written before all is judged.
-ghost use Rattle.std.specs.Prelude.{◌≡◌, ◌≤◌, Ok, IfOk, IfErr, OnOk, OnErr};
+//! A scan: takes the certificates of before, reads a repository, judges it, keeps the certificates and writes the reports.
+//! The store is read before the tree and replaced once, after all queries were answered; nothing is written before.
+ghost use Rattle.std.specs.Prelude.{◌≡◌, ◌≤◌, ℕ, List, IfOk, IfErr, OnOk, OnErr};
+ghost use Rattle.std.specs.FinMap as map;
+ghost use Rattle.std.specs.Option.{option_map};
 ghost use Rattle.gv_base.specs.Outside.{gains};
-ghost use Rattle.gvis.specs.RepoReports.{scan_text, first_untried};
 ghost use Rattle.gvis.specs.Endings.{GainsFront};
-ghost use Rattle.gvis.specs.Run.{world, Scans};
-ghost use Rattle.gvis.specs.Scan.{IsText};
-ghost use Rattle.gvis.specs.ScanSteps.{IsLoaded, ReadCause, UntriedCause, WriteCause, ScansRoot};
+ghost use Rattle.gvis.specs.Asking.{AsksFor};
+ghost use Rattle.gvis.specs.Performs.{Performs};
+ghost use Rattle.gvis.specs.Run.{world};
+ghost use Rattle.gvis.specs.ScanSteps.{HasLeft, KeepCause, LeaveCause, ScansRoot, WriteCause, writing};
 
+use crate::Refusal;
+use crate::answering::{Answers, answer_root};
+use crate::asking::Asked;
+use crate::fetching::given;
 use crate::output::put_all;
-use crate::words::root_of;
-use crate::{JudgeFault, Refusal, report_text};
-use gv_base::{Sink, SinkFault, Text, Texts, Tree};
-use gv_load::{LoadFault, Repo, load};
+use gv_base::{Ledger, Sink, SinkFault, Steps, Store, StoreFault, Text, Tree};
+use gv_cert::Known;
 use std::alloc::Global;
 
-#[tactic(auto, using(crate::proofs::Scanned::no_repository, crate::proofs::Scanned::past_limit))]
-fn read<T: Tree>(alloc: Global, tree: &mut T) -> Result<Repo, Refusal>
-    ensures repo { IfOk result (IsLoaded (T.files tree.old)) }
-    ensures cause { IfErr result (ReadCause (T.files tree.old) (T.faults tree.old) (T.faults tree.new)) }
-    ensures files { T.files tree.new ≡ T.files tree.old }
-    ensures root { T.entered tree.new ≡ T.entered tree.old }
-    ensures later { T.faults tree.old ≤ T.faults tree.new }
-    ensures calm { OnOk result (T.faults tree.new ≡ T.faults tree.old) }
+// Makes the bytes the file at the path.
+fn keep<K: Store>(alloc: Global, path: &Text, file: &Text, store: &mut K) -> Result<(), Refusal>
+    ensures kept { OnOk result (K.files store.new ≡ option_map (λ files. map.insert files path.now file.now) (K.files store.old)) }
+    ensures others { OnErr result (option_map (λ files. map.remove files path.now) (K.files store.new) ≡ option_map (λ files. map.remove files path.now) (K.files store.old)) }
+    ensures cause { IfErr result (KeepCause path.now (K.faults store.old) (K.faults store.new)) }
+    ensures later { K.faults store.old ≤ K.faults store.new }
+    ensures calm { OnOk result (K.faults store.new ≡ K.faults store.old) }
 {
-    match load(alloc, tree) {
-        Ok(repo) => Ok(repo),
-        Err(LoadFault::Tree { path }) => Err(Refusal::TreeFailed { path }),
-        Err(LoadFault::NotARepository { path }) => Err(Refusal::NotARepository { path }),
-        Err(LoadFault::Limit { place, number }) => Err(Refusal::Limit { place, number }),
-        Err(LoadFault::NoMemory) => Err(Refusal::NoMemory),
+    match store.replace(alloc, path, file) {
+        Ok(()) => Ok(()),
+        Err(StoreFault::Failed) => match path.copy(alloc) {
+            Ok(path) => Err(Refusal::StoreFailed { path }),
+            Err(_) => Err(Refusal::NoMemory),
+        },
+        Err(StoreFault::NoMemory) => Err(Refusal::NoMemory),
     }
 }
 
-fn judge(alloc: Global, repo: &Repo) -> Result<Text, Refusal>
-    ensures text { IfOk result (λ text. text ≡ scan_text repo.now) }
-    ensures tried { OnOk result (first_untried repo.now ≡ None) }
-    ensures cause { IfErr result (UntriedCause repo.now) }
-{
-    match report_text(alloc, repo) {
-        Ok(text) => Ok(text),
-        Err(JudgeFault::Untried { place }) => Err(Refusal::NotBuilt { place }),
-        Err(JudgeFault::NoMemory) => Err(Refusal::NoMemory),
-    }
-}
-
-// The text of the reports.
-#[tactic(auto, using(crate::proofs::Scanned::is_text, crate::proofs::Scanned::is_untried))]
-fn report<T: Tree>(alloc: Global, tree: &mut T) -> Result<Text, Refusal>
-    ensures text { IfOk result (IsText (T.files tree.old)) }
-    ensures cause { IfErr result (ReadCause (T.files tree.old) (T.faults tree.old) (T.faults tree.new)) }
-    ensures files { T.files tree.new ≡ T.files tree.old }
-    ensures root { T.entered tree.new ≡ T.entered tree.old }
-    ensures later { T.faults tree.old ≤ T.faults tree.new }
-    ensures calm { OnOk result (T.faults tree.new ≡ T.faults tree.old) }
-{
-    let repo = read(alloc, tree)?;
-    judge(alloc, &repo)
-}
-
-fn write<S: Sink>(out: &mut S, text: &Text) -> Result<(), Refusal>
+/// Writes the text.
+pub(crate) fn write<S: Sink>(out: &mut S, text: &Text) -> Result<(), Refusal>
     ensures ok { OnOk result (S.held out.new ≡ gains (S.held out.old) text.now) }
     ensures err { OnErr result (GainsFront (S.held out.old) (S.held out.new) text.now) }
     ensures cause { IfErr result (WriteCause (S.faults out.old) (S.faults out.new)) }
@@ -72,37 +52,61 @@ fn write<S: Sink>(out: &mut S, text: &Text) -> Result<(), Refusal>
     }
 }
 
-// Scans the root that was entered.
-#[tactic(auto, using(crate::proofs::Scanned::read_stops, crate::proofs::Scanned::write_stops))]
-fn scan_root<T: Tree, S: Sink>(alloc: Global, tree: &mut T, out: &mut S) -> Result<bool, Refusal>
-    ensures { ScansRoot
-        (world (T.entered tree.old) (T.files tree.old) (T.faults tree.old) (S.held out.old) (S.faults out.old))
-        (world (T.entered tree.new) (T.files tree.new) (T.faults tree.new) (S.held out.new) (S.faults out.new))
+// Keeps the file, and then writes the text; answers whether it has bytes.
+#[tactic(auto, using(crate::proofs::Leaving::unkept, crate::proofs::Leaving::unwritten))]
+fn leave<K: Store, S: Sink>(
+    alloc: Global,
+    path: &Text,
+    answers: &Answers,
+    store: &mut K,
+    out: &mut S,
+) -> Result<bool, Refusal>
+    ensures left { IfOk result (HasLeft path.now answers.now (writing (K.files store.old) (K.files store.new) (K.faults store.old) (K.faults store.new) (S.held out.old) (S.held out.new) (S.faults out.old) (S.faults out.new))) }
+    ensures cause { IfErr result (LeaveCause path.now answers.now (writing (K.files store.old) (K.files store.new) (K.faults store.old) (K.faults store.new) (S.held out.old) (S.held out.new) (S.faults out.old) (S.faults out.new))) }
+    ensures store_later { K.faults store.old ≤ K.faults store.new }
+    ensures out_later { S.faults out.old ≤ S.faults out.new }
+{
+    keep(alloc, path, &answers.file, store)?;
+    write(out, &answers.text)?;
+    Ok(!answers.text.bytes().is_empty())
+}
+
+// Scans the root that was entered, with records that are given.
+#[tactic(auto, using(crate::proofs::Scanned::answer_stops, crate::proofs::Scanned::leave_stops, crate::proofs::Scanned::root_reports))]
+fn scan_root<T: Tree, K: Store, S: Sink, L: Ledger>(
+    alloc: Global,
+    asked: &Asked,
+    given: &Known,
+    tree: &mut T,
+    store: &mut K,
+    out: &mut S,
+    steps: &mut Steps<L>,
+) -> Result<bool, Refusal>
+    ensures { ScansRoot asked.now given.now
+        (world (T.entered tree.old) (T.files tree.old) (T.faults tree.old) (K.files store.old) (K.faults store.old) (S.held out.old) (S.faults out.old) steps.old)
+        (world (T.entered tree.new) (T.files tree.new) (T.faults tree.new) (K.files store.new) (K.faults store.new) (S.held out.new) (S.faults out.new) steps.new)
         result }
 {
-    let text = report(alloc, tree)?;
-    write(out, &text)?;
-    Ok(!text.bytes().is_empty())
+    let answers = answer_root(alloc, asked, given, tree, steps)?;
+    leave(alloc, &asked.file, &answers, store, out)
 }
 
 /// Scans, and answers whether there are reports.
-#[tactic(auto, using(crate::proofs::Scanned::scans))]
-pub(crate) fn scan<T: Tree, S: Sink>(
+#[tactic(auto, using(crate::proofs::Scanned::unfetched, crate::proofs::Performed::unbegun))]
+pub(crate) fn scan<T: Tree, K: Store, S: Sink, L: Ledger>(
     alloc: Global,
-    words: &Texts,
+    asked: &Asked,
     tree: &mut T,
+    store: &mut K,
     out: &mut S,
+    steps: &mut Steps<L>,
 ) -> Result<bool, Refusal>
-    ensures { Scans words.now
-        (world (T.entered tree.old) (T.files tree.old) (T.faults tree.old) (S.held out.old) (S.faults out.old))
-        (world (T.entered tree.new) (T.files tree.new) (T.faults tree.new) (S.held out.new) (S.faults out.new))
+    ensures { (words : List (List ℕ)) → AsksFor words asked.now → Performs words
+        (world (T.entered tree.old) (T.files tree.old) (T.faults tree.old) (K.files store.old) (K.faults store.old) (S.held out.old) (S.faults out.old) steps.old)
+        (world (T.entered tree.new) (T.files tree.new) (T.faults tree.new) (K.files store.new) (K.faults store.new) (S.held out.new) (S.faults out.new) steps.new)
         result }
 {
-    let Some(root) = root_of(words) else {
-        return Err(Refusal::BadWords);
-    };
-    if tree.enter(alloc, root).is_err() {
-        return Err(Refusal::NoMemory);
-    }
-    scan_root(alloc, tree, out)
+    tree.enter(alloc, &asked.root)?;
+    let given = given(alloc, asked, store)?;
+    scan_root(alloc, asked, &given, tree, store, out, steps)
 }

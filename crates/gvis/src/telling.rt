@@ -41,11 +41,12 @@ fn status(refusal: &Refusal) -> u8
     match refusal {
         Refusal::BadWords => 2,
         Refusal::TreeFailed { .. } => 3,
+        Refusal::StoreFailed { .. } => 3,
         Refusal::OutputFailed => 3,
+        Refusal::Spent { .. } => 4,
         Refusal::NoMemory => 5,
         Refusal::NotARepository { .. } => 6,
         Refusal::Limit { .. } => 7,
-        Refusal::NotBuilt { .. } => 9,
     }
 }
 
@@ -64,11 +65,12 @@ fn append_refusal(alloc: Global, line: &mut Text, refusal: &Refusal) -> Result<(
     match refusal {
         Refusal::BadWords => line.append(b"gvis: bad command line"),
         Refusal::TreeFailed { path } => append_place(line, b"gvis: fault: tree ", path),
+        Refusal::StoreFailed { path } => append_place(line, b"gvis: fault: store ", path),
         Refusal::OutputFailed => line.append(b"gvis: fault: output"),
+        Refusal::Spent { name } => append_place(line, b"gvis: budget spent: ", name),
         Refusal::NoMemory => line.append(b"gvis: out of memory"),
         Refusal::NotARepository { path } => append_place(line, b"gvis: not a repository: ", path),
         Refusal::Limit { place, number } => append_limit(alloc, line, place, *number),
-        Refusal::NotBuilt { place } => append_place(line, b"gvis: not built: ", place),
     }
 }
 

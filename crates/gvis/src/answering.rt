@@ -1,0 +1,117 @@
+//! The answers of a scan: a repository read and judged, as the text of its reports and the file of its certificates.
+//!
+//! Besides what `load` and `judge` cost, O(the bytes of both).
+ghost use Rattle.std.specs.Prelude.{◌≡◌, ◌≤◌, IfOk, IfErr, OnOk};
+ghost use Rattle.gv_report.specs.Emitted.{emitted};
+ghost use Rattle.gv_checks.specs.Answered.{IsJudged};
+ghost use Rattle.gvis.specs.Scan.{IsLoaded};
+ghost use Rattle.gvis.specs.ScanSteps.{AnswerCause, AreAnswersOf, HasAnswers, JudgeCause, ReadCause, reading};
+
+use crate::Refusal;
+use crate::asking::Asked;
+use crate::naming::name_text;
+use gv_base::{Ledger, NoMemory, Steps, Text, Tree};
+use gv_cert::{Known, write_known};
+use gv_checks::{JudgeFault, Judged, QueryName, gates_law, judge};
+use gv_load::{LoadFault, Repo, load};
+use gv_logic::circuit_law;
+use gv_report::{Emitter, Options, Report, Reports, selected, selected_law};
+use std::alloc::Global;
+
+/// What a scan answers.
+#[derive(Drop)]
+pub struct Answers {
+    /// The text of the reports.
+    pub text: Text,
+    /// The file of the certificates.
+    pub file: Text,
+}
+
+/// The repository that stands in the tree.
+pub(crate) fn read<T: Tree>(alloc: Global, tree: &mut T) -> Result<Repo, Refusal>
+    ensures repo { IfOk result (IsLoaded (T.files tree.old)) }
+    ensures cause { IfErr result (ReadCause (T.files tree.old) (T.faults tree.old) (T.faults tree.new)) }
+    ensures files { T.files tree.new ≡ T.files tree.old }
+    ensures root { T.entered tree.new ≡ T.entered tree.old }
+    ensures later { T.faults tree.old ≤ T.faults tree.new }
+    ensures calm { OnOk result (T.faults tree.new ≡ T.faults tree.old) }
+{
+    match load(alloc, tree) {
+        Ok(repo) => Ok(repo),
+        Err(LoadFault::Tree { path }) => Err(Refusal::TreeFailed { path }),
+        Err(LoadFault::NotARepository { path }) => Err(Refusal::NotARepository { path }),
+        Err(LoadFault::Limit { place, number }) => Err(Refusal::Limit { place, number }),
+        Err(LoadFault::NoMemory) => Err(Refusal::NoMemory),
+    }
+}
+
+fn judged<L: Ledger>(
+    alloc: Global,
+    repo: &Repo,
+    options: &Options,
+    given: &Known,
+    steps: &mut Steps<L>,
+) -> Result<Judged, Refusal>
+    ensures judged { IfOk result (IsJudged options.now given.now repo.now steps.old steps.new) }
+    ensures cause { IfErr result (JudgeCause options.now given.now repo.now) }
+{
+    match judge(alloc, repo, options, given, steps) {
+        Ok(judged) => Ok(judged),
+        Err(JudgeFault::Spent { name, sets: _ }) => match name_text(alloc, repo, &name) {
+            Ok(name) => Err(Refusal::Spent { name }),
+            Err(_) => Err(Refusal::NoMemory),
+        },
+        Err(JudgeFault::Limit { place, number }) => Err(Refusal::Limit { place, number }),
+        Err(JudgeFault::NoMemory) => Err(Refusal::NoMemory),
+    }
+}
+
+// The text of the reports that the options select. JSON is written of printable texts alone, as all reports of a
+// repository have; where one weren't so, memory is said to be wanting.
+pub(crate) fn text_of(alloc: Global, options: &Options, reports: &Reports) -> Result<Text, NoMemory>
+    ensures { IfOk result (λ text. text ≡ emitted options.now reports.now) }
+{
+    if options.json && !reports.are_printable() {
+        return Err(NoMemory);
+    }
+    let test = |report: &Report| selected(options, report);
+    Emitter::new(options, test).emit(alloc, reports)
+}
+
+#[tactic(auto, using(crate::proofs::AnswerLemmas::are_answers))]
+fn answers_of<L: Ledger>(
+    alloc: Global,
+    repo: &Repo,
+    options: &Options,
+    given: &Known,
+    steps: &mut Steps<L>,
+) -> Result<Answers, Refusal>
+    ensures answers { IfOk result (AreAnswersOf options.now given.now repo.now steps.old steps.new) }
+    ensures cause { IfErr result (JudgeCause options.now given.now repo.now) }
+{
+    selected_law();
+    gates_law();
+    circuit_law();
+    let judged = judged(alloc, repo, options, given, steps)?;
+    let text = text_of(alloc, options, &judged.reports)?;
+    let file = write_known(alloc, &judged.certs)?;
+    Ok(Answers { text, file })
+}
+
+/// The answers of the repository that stands in the tree, by records that are given where these are backed.
+pub(crate) fn answer_root<T: Tree, L: Ledger>(
+    alloc: Global,
+    asked: &Asked,
+    given: &Known,
+    tree: &mut T,
+    steps: &mut Steps<L>,
+) -> Result<Answers, Refusal>
+    ensures answers { IfOk result (HasAnswers asked.now given.now (reading (T.files tree.old) (T.faults tree.old) (T.faults tree.new) steps.old steps.new)) }
+    ensures cause { IfErr result (AnswerCause asked.now given.now (reading (T.files tree.old) (T.faults tree.old) (T.faults tree.new) steps.old steps.new)) }
+    ensures files { T.files tree.new ≡ T.files tree.old }
+    ensures root { T.entered tree.new ≡ T.entered tree.old }
+    ensures later { T.faults tree.old ≤ T.faults tree.new }
+{
+    let repo = read(alloc, tree)?;
+    answers_of(alloc, &repo, &asked.options, given, steps)
+}

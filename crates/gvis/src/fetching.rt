@@ -1,0 +1,64 @@
+//! Files taken from the store, before anything of the tree is read.
+//!
+//! `fetch` costs the store's call; `fetch_known` besides that O(the file's bytes), which are let go as soon as the records
+//! are copied.
+ghost use Rattle.std.specs.Prelude.{◌≡◌, ◌≤◌, true, false, IfOk, IfErr, OnOk, OnErr};
+ghost use Rattle.gvis.specs.Fetching.{AreRecordsAt, IsFileAt, IsGiven};
+ghost use Rattle.gvis.specs.ScanSteps.{KeepCause};
+
+use crate::Refusal;
+use crate::asking::Asked;
+use gv_base::{Store, StoreFault, Text};
+use gv_cert::{Known, read_known};
+use std::alloc::Global;
+
+/// The bytes of the file at the path; where none is there, no bytes.
+pub(crate) fn fetch<K: Store>(alloc: Global, path: &Text, store: &mut K) -> Result<Text, Refusal>
+    ensures bytes { IfOk result (IsFileAt (K.files store.old) path.now) }
+    ensures cause { IfErr result (KeepCause path.now (K.faults store.old) (K.faults store.new)) }
+    ensures files { K.files store.new ≡ K.files store.old }
+    ensures later { K.faults store.old ≤ K.faults store.new }
+    ensures calm { OnOk result (K.faults store.new ≡ K.faults store.old) }
+{
+    match store.fetch(alloc, path) {
+        Ok(Some(bytes)) => Ok(bytes),
+        Ok(None) => Ok(Text::of(alloc, b"")?),
+        Err(StoreFault::Failed) => match path.copy(alloc) {
+            Ok(path) => Err(Refusal::StoreFailed { path }),
+            Err(_) => Err(Refusal::NoMemory),
+        },
+        Err(StoreFault::NoMemory) => Err(Refusal::NoMemory),
+    }
+}
+
+/// The records of certificates that the file at the path has; where none is there, none.
+pub(crate) fn fetch_known<K: Store>(
+    alloc: Global,
+    path: &Text,
+    store: &mut K,
+) -> Result<Known, Refusal>
+    ensures known { IfOk result (AreRecordsAt (K.files store.old) path.now) }
+    ensures cause { IfErr result (KeepCause path.now (K.faults store.old) (K.faults store.new)) }
+    ensures files { K.files store.new ≡ K.files store.old }
+    ensures later { K.faults store.old ≤ K.faults store.new }
+    ensures calm { OnOk result (K.faults store.new ≡ K.faults store.old) }
+{
+    let bytes = fetch(alloc, path, store)?;
+    Ok(read_known(alloc, bytes.bytes())?)
+}
+
+/// The records that are given to a scan. Where it is fresh, there are none, and the store isn't touched.
+pub(crate) fn given<K: Store>(alloc: Global, asked: &Asked, store: &mut K) -> Result<Known, Refusal>
+    ensures given { IfOk result (IsGiven asked.now (K.files store.old)) }
+    ensures cause { IfErr result (KeepCause asked.now.file (K.faults store.old) (K.faults store.new)) }
+    ensures unfresh { OnErr result (asked.now.fresh ≡ false) }
+    ensures files { K.files store.new ≡ K.files store.old }
+    ensures later { K.faults store.old ≤ K.faults store.new }
+    ensures calm { OnOk result (K.faults store.new ≡ K.faults store.old) }
+    ensures fresh { asked.now.fresh ≡ true → store.new ≡ store.old }
+{
+    if asked.fresh {
+        return Ok(Known::new(alloc));
+    }
+    fetch_known(alloc, &asked.file, store)
+}
