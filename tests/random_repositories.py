@@ -4,12 +4,14 @@
     random_repositories.py BINARY FIRST LAST
 
 For each number from FIRST up to LAST a small repository is drawn from it, judged by tests/plain.py, written to a folder and
-scanned by BINARY. Prints the first repository on which the two differ, and last how many are alike. Exit status 1 where one
-differed.
+scanned by BINARY, which then has to accept its own report by its certificates, and refuse another one at the first byte that
+differs. Prints the first repository on which the two differ, and last how many are alike. Exit status 1 where one differed.
 """
 import hashlib
+import json
 import os
 import random
+import re
 import subprocess
 import sys
 import tempfile
@@ -27,12 +29,17 @@ ECLASSES = ["one", "two"]
 
 # Expressions
 
+def draw_item(draw):
+    sign, mark = draw.choice([("", ""), ("", ""), ("-", ""), ("", "="), ("!", "="), ("", "?"), ("!", "?")])
+    return sign + draw.choice(FLAGS) + draw.choice(["", "", "(+)", "(-)"]) + mark
+
+
 def draw_atom(draw, asks=0.0):
     name = draw.choice(PACKAGES + ["x/none"])
     op = draw.choice(["", "", "", "<", "<=", "=", "~", ">=", ">", "=*"])
     block = draw.choice([""] * 5 + ["!", "!!"])
     slot = draw.choice(["", "", "", "", "", ":0", ":1", ":0/0", ":0/2", ":*", ":=", ":0=", ":1/1="])
-    items = draw.choice(["[a]", "[-b,c(+)]", "[a?]", "[!d=]"]) if draw.random() < asks else ""
+    items = "[" + ",".join(draw_item(draw) for _ in range(draw.randrange(1, 3))) + "]" if draw.random() < asks else ""
     return block + op.rstrip("*") + name + ("-" + draw.choice(VERSIONS) if op else "") + ("*" if op == "=*" else "") + slot + items
 
 
@@ -135,7 +142,7 @@ def put_entry(draw, files, asks):
     iuse = " ".join(draw.choice(["", "+", "-"]) + flag for flag in draw.sample(FLAGS, draw.randrange(6)))
     lines = ["EAPI=" + draw.choice(list("5678") + ["8"] * 4 + ["4"]), "SLOT=" + draw.choice(["0", "1", "0/2", "1/1", "0"]),
              "KEYWORDS=" + draw.choice(["amd64", "~amd64", "amd64 x86", "~x86 amd64", "-* x86", "", "amd64 ~~x86"]),
-             "IUSE=" + iuse, "_md5_=" + draw.choice([digest] * 9 + [digest.upper(), "0" * 32]), "_eclasses_=" + "\t".join(pairs)]
+             "IUSE=" + iuse, "PROPERTIES=" + draw.choice(["", "", "", "live", "interactive live"]), "_md5_=" + draw.choice([digest] * 9 + [digest.upper(), "0" * 32]), "_eclasses_=" + "\t".join(pairs)]
     for key in ["REQUIRED_USE"] + plain.CLASSES:
         if draw.random() < 0.5:
             lines.append("%s=%s" % (key, draw_expression(draw, key == "REQUIRED_USE", asks)))
@@ -157,37 +164,113 @@ def draw_repository(draw):
     put_parents(draw, files)
     if draw.random() < 0.4:
         put_file_or_folder(draw, files, "profiles/package.mask", draw.choice(masked) + "\n")
-    asks = draw.choice([0, 0, 0, 0.1])
+    asks = draw.choice([0, 0.1, 0.3])
     for _ in range(draw.randrange(1, 9)):
         put_entry(draw, files, asks)
     return {path: content.encode() for path, content in files.items()}
 
 
-def scanned(binary, files):
+def draw_options(draw):
+    """Keywords, profiles, and whether JSON is asked for; and the words for them, in any order."""
+    keywords = draw.sample(plain.KEYWORDS, draw.randrange(1, 6)) if draw.random() < 0.3 else None
+    profiles = draw.sample(FOLDERS + ["none"], draw.randrange(1, 3)) if draw.random() < 0.2 else None
+    as_json = draw.random() < 0.3
+    parts = [["R"], draw.choice([["--certs", "C"], ["--certs=C"]])] + [["--fresh"]] * draw.randrange(2) + [["--json"]] * as_json
+    for name, values in (("--keywords", keywords), ("--profiles", profiles)):
+        if values is not None:
+            parts.append(draw.choice([[name, ",".join(values)], [name + "=" + ",".join(values)]]))
+    draw.shuffle(parts)
+    return (keywords, profiles, as_json), ["scan"] + [word for part in parts for word in part]
+
+
+def put_files(folder, files):
+    for path, content in files.items():
+        path = os.path.join(folder, path)
+        os.makedirs(os.path.dirname(path), exist_ok=True)
+        with open(path, "wb") as file:
+            file.write(content)
+
+
+def scanned(draw, binary, files, words):
+    """How the scan ends, how many certificates it leaves, and how the verifications of its report and of another one end."""
     with tempfile.TemporaryDirectory() as folder:
-        for path, content in files.items():
-            path = os.path.join(folder, "R", path)
-            os.makedirs(os.path.dirname(path), exist_ok=True)
-            with open(path, "wb") as file:
-                file.write(content)
-        done = subprocess.run([binary, "scan", "R", "--certs", "C"], cwd=folder, capture_output=True, text=True, timeout=60)
-    return done.returncode, done.stdout, done.stderr
+        put_files(os.path.join(folder, "R"), files)
+        done = subprocess.run([binary] + words, cwd=folder, capture_output=True, text=True, timeout=60)
+        with open(os.path.join(folder, "C"), "rb") as file:
+            records = records_of(file.read())
+        verdicts = verified(binary, folder, words, done.stdout.encode()), *other_verdict(draw, binary, folder, words, done.stdout.encode())
+    return (done.returncode, done.stdout, done.stderr), records, verdicts
+
+
+def verified(binary, folder, words, report):
+    """How the verification of a report ends, with the number of questions left out."""
+    put_files(folder, {"P": report})
+    words = ["verify"] + [word for word in words[1:] if word != "--fresh"] + ["--report", "P"]
+    done = subprocess.run([binary] + words, cwd=folder, capture_output=True, text=True, timeout=60)
+    return done.returncode, re.sub("^accepted [0-9]+", "accepted", done.stdout), done.stderr
+
+
+def other_verdict(draw, binary, folder, words, report):
+    """That of a report with a byte changed, a line left out or a byte more; and the one that is wanted."""
+    lines, place = report.splitlines(keepends=True), draw.randrange(len(report) + 1)
+    without = draw.randrange(len(lines)) if lines else 0
+    other = draw.choice([
+        report[:place] + b"*" + report[place + 1:], b"".join(lines[:without] + lines[without + 1:]), report + b"\n"])
+    if other == report:
+        other += b"*"
+    at = next((n for n, (a, b) in enumerate(zip(report, other)) if a != b), min(len(report), len(other)))
+    return verified(binary, folder, words, other), (1, "refused: text differs at byte %d\n" % at, "")
+
+
+def records_of(content):
+    """The records of a file of certificates, none of which has the gates of another."""
+    assert content[:10] == b"gviscert1\n", content[:10]
+    queries, at = [], 10
+    while at < len(content):
+        parts = []
+        for _ in range(2):
+            size = int.from_bytes(content[at:at + 8], "big")
+            parts.append(content[at + 8:at + 8 + size])
+            at += 8 + size
+        queries.append(parts[0])
+    assert at == len(content) and len(set(queries)) == len(queries)
+    return len(queries)
+
+
+def compared(draw, binary, files, options, words):
+    """What is wanted, what came, how many certificates, and the verdicts. JSON lines are read by Python."""
+    want = plain.scan(files, *options)
+    got, kept, verdicts = scanned(draw, binary, files, words)
+    if options[2]:
+        for line in got[1].splitlines():
+            json.loads(line)
+    return want, got, kept, verdicts
 
 
 def main():
     binary, first, last = os.path.abspath(sys.argv[1]), int(sys.argv[2]), int(sys.argv[3])
-    lines, statuses = 0, {}
+    lines, records, statuses = 0, 0, {}
     for number in range(first, last):
-        files = draw_repository(random.Random(number))
-        want = plain.scan(files)
-        got = scanned(binary, files)
+        draw = random.Random(number)
+        files = draw_repository(draw)
+        options, words = draw_options(draw)
+        try:
+            want, got, kept, verdicts = compared(draw, binary, files, options, words)
+        except Exception:
+            print("repository %d, %s:" % (number, " ".join(words)), file=sys.stderr)
+            raise
         if got != want:
-            print("repository %d: got %r, want %r" % (number, got, want))
+            print("repository %d, %s: got %r, want %r" % (number, " ".join(words), got, want))
             return 1
-        lines += want[1].count("\n")
+        accepted, refused, wanted = verdicts
+        if accepted != (0, "accepted\n", "") or refused != wanted:
+            print("repository %d, %s: verified as %r and %r, want %r" % (number, " ".join(words), accepted, refused, wanted))
+            return 1
+        lines, records = lines + want[1].count("\n"), records + kept
         statuses[want[0]] = statuses.get(want[0], 0) + 1
-    print("%d repositories alike, with %d lines, by status: %s" % (last - first, lines, sorted(statuses.items())))
+    print("%d repositories alike, with %d lines and %d certificates, by status: %s" % (last - first, lines, records, sorted(statuses.items())))
     return 0
 
 
-sys.exit(main())
+if __name__ == "__main__":
+    sys.exit(main())

@@ -7,17 +7,23 @@ Prints a line for each that went wrong, and last how many passed. Exit status 1 
 """
 import hashlib
 import os
+import resource
 import shutil
+import signal
 import socket
 import subprocess
 import sys
-import tempfile
+
+sys.dont_write_bytecode = True
+from results import tell, tried  # noqa: E402
 
 NOBODY = 65534
 LARGEST = 16_777_216
 MISSING = "app/p-1: NonsolvableDepsInStable: RDEPEND: amd64 base stable: USE=\"\": x/y\n"
 
 
+ASKED = ["--keywords", "NonsolvableDepsInStable"]
+HEADER = b"gviscert1\n"
 EBUILD = b"inherit one\n"
 ECLASS = b"# an eclass\n"
 ENTRY = b"EAPI=8\nSLOT=0\nKEYWORDS=amd64\nRDEPEND=x/y\n_md5_=%s\n_eclasses_=one\t%s\n" % (
@@ -51,7 +57,7 @@ def make(folder, path):
 
 
 def scan(binary, folder, **more):
-    done = subprocess.run([binary, "scan", folder, "--certs", os.path.join(folder, "C")], capture_output=True, timeout=60, **more)
+    done = subprocess.run([binary, "scan", folder, "--certs", os.path.join(folder, "C")] + ASKED, capture_output=True, timeout=60, **more)
     return done.returncode, done.stdout.decode(), done.stderr.decode()
 
 
@@ -227,10 +233,447 @@ def closed_pipe(binary, folder):
     """Nobody reads what is written: a fault of the output, whether the system's signal is held back or not."""
     read_end, write_end = os.pipe()
     os.close(read_end)
-    words = [binary, "scan", folder, "--certs", os.path.join(folder, "C")]
+    words = [binary, "scan", folder, "--certs", os.path.join(folder, "C")] + ASKED
     done = subprocess.run(words, stdout=write_end, stderr=subprocess.PIPE, timeout=60, restore_signals=False)
     os.close(write_end)
-    return done.returncode, "", done.stderr.decode()
+    return (done.returncode, done.stderr.decode()), (3, "gvis: fault: output\n")
+
+
+# The file of the certificates, and an output that takes nothing. Each answers what came and what is wanted.
+
+def content(path):
+    with open(path, "rb") as f:
+        return f.read()
+
+
+def kept(binary, folder, path, **more):
+    """The status, what stands on standard error, whether the file begins as one of certificates, and what else stands there."""
+    done = subprocess.run([binary, "scan", folder, "--certs", path] + ASKED, capture_output=True, timeout=60, cwd=folder, **more)
+    full = os.path.join(folder, path)
+    is_new = os.path.isfile(full) and content(full).startswith(HEADER)
+    return done.returncode, done.stderr.decode(), is_new, sorted(os.listdir(os.path.dirname(full)) if os.path.isdir(os.path.dirname(full)) else [])
+
+
+def new_file(binary, folder):
+    make(folder, "certs")
+    return kept(binary, folder, "certs/C"), (1, "", True, ["C"])
+
+
+def old_file(binary, folder):
+    put(folder, "certs/C", b"old")
+    os.chmod(os.path.join(folder, "certs/C"), 0o640)
+    got = kept(binary, folder, "certs/C")
+    return got + (os.stat(os.path.join(folder, "certs/C")).st_mode & 0o777,), (1, "", True, ["C"], 0o640)
+
+
+def twice(binary, folder):
+    make(folder, "certs")
+    first = kept(binary, folder, "certs/C"), content(os.path.join(folder, "certs/C"))
+    return (kept(binary, folder, "certs/C"), content(os.path.join(folder, "certs/C"))), first
+
+
+def link_to_a_file(binary, folder):
+    put(folder, "elsewhere/D", b"old")
+    make(folder, "certs")
+    os.symlink("../elsewhere/D", os.path.join(folder, "certs/C"))
+    got = kept(binary, folder, "certs/C")
+    where = os.path.islink(os.path.join(folder, "certs/C")), content(os.path.join(folder, "elsewhere/D"))[:10], os.listdir(os.path.join(folder, "elsewhere"))
+    return got + where, (1, "", True, ["C"], True, HEADER, ["D"])
+
+
+def link_to_no_file(binary, folder):
+    make(folder, "certs")
+    os.symlink("D", os.path.join(folder, "certs/C"))
+    return kept(binary, folder, "certs/C") + (os.path.islink(os.path.join(folder, "certs/C")),), (1, "", True, ["C", "D"], True)
+
+
+def links_to_no_file(binary, folder):
+    """A link to a link to nothing, in other folders: ended in the middle, nothing stands there; then the new file does."""
+    make(folder, "certs")
+    make(folder, "elsewhere")
+    os.symlink("../elsewhere/D", os.path.join(folder, "certs/C"))
+    os.symlink(os.path.join(folder, "E"), os.path.join(folder, "elsewhere/D"))
+    first = kept(binary, folder, "certs/C", preexec_fn=small_files_only(signal.SIG_DFL))
+    ended = first[0], os.path.lexists(os.path.join(folder, "E"))
+    got = kept(binary, folder, "certs/C") + (content(os.path.join(folder, "E"))[:10], os.path.islink(os.path.join(folder, "elsewhere/D")))
+    return (ended, got), ((-signal.SIGXFSZ, False), (1, "", True, ["C"], HEADER, True))
+
+
+def loop_of_links_as_file(binary, folder):
+    make(folder, "certs")
+    os.symlink("C", os.path.join(folder, "certs/C"))
+    return kept(binary, folder, "certs/C"), (3, "gvis: fault: store certs/C\n", False, ["C"])
+
+
+def link_below_no_folder(binary, folder):
+    make(folder, "certs")
+    os.symlink("gone/D", os.path.join(folder, "certs/C"))
+    return kept(binary, folder, "certs/C"), (3, "gvis: fault: store certs/C\n", False, ["C"])
+
+
+def full_device(binary, folder):
+    return kept(binary, folder, "/dev/full")[:3], (3, "gvis: fault: store /dev/full\n", False)
+
+
+def null_device(binary, folder):
+    got = kept(binary, folder, "/dev/null")[:2]
+    return got + (os.path.isfile("/dev/null"),), (1, "", False)
+
+
+def folder_as_file(binary, folder):
+    make(folder, "certs/C/inside")
+    return kept(binary, folder, "certs/C"), (3, "gvis: fault: store certs/C\n", False, ["C"])
+
+
+def no_folder(binary, folder):
+    return kept(binary, folder, "gone/C"), (3, "gvis: fault: store gone/C\n", False, [])
+
+
+def pipe_with_a_reader(binary, folder):
+    os.mkfifo(os.path.join(folder, "C"))
+    with subprocess.Popen([binary, "scan", folder, "--certs", "C"] + ASKED, cwd=folder, stdout=subprocess.PIPE) as run:
+        got = content(os.path.join(folder, "C"))[:10]
+        out = run.communicate(timeout=60)[0].decode()
+    return (run.returncode, out, got), (1, MISSING, HEADER)
+
+
+def pipe_without_an_end(binary, folder):
+    """Who reads the certificates from the pipe holds it open for writing too: the scan doesn't wait for what would come."""
+    os.mkfifo(os.path.join(folder, "C"))
+    pipe_end = os.open(os.path.join(folder, "C"), os.O_RDWR)
+    got = kept_quickly(binary, folder, "C"), os.read(pipe_end, 10)
+    os.close(pipe_end)
+    return got, ((1, ""), HEADER)
+
+
+def endless_device(binary, folder):
+    os.symlink("/dev/zero", os.path.join(folder, "C"))
+    return kept_quickly(binary, folder, "C"), (1, "")
+
+
+def kept_quickly(binary, folder, path):
+    done = subprocess.run([binary, "scan", folder, "--certs", path] + ASKED, capture_output=True, timeout=20, cwd=folder)
+    return done.returncode, done.stderr.decode()
+
+
+def socket_as_file(binary, folder):
+    make(folder, "certs")
+    listening(os.path.join(folder, "certs/C"))
+    return kept(binary, folder, "certs/C"), (3, "gvis: fault: store certs/C\n", False, ["C"])
+
+
+def used_again(binary, folder):
+    """The certificates of before, by a link, of another tree, cut, and not read with --fresh."""
+    make(folder, "certs")
+    make(folder, "elsewhere")
+    os.symlink("../elsewhere/D", os.path.join(folder, "certs/C"))
+    first = kept(binary, folder, "certs/C"), content(os.path.join(folder, "elsewhere/D"))
+    got = []
+    for before in (first[1], first[1][:-1], first[1][:30], b"", b"old", HEADER, bytes(100)):
+        put(folder, "elsewhere/D", before)
+        got.append((kept(binary, folder, "certs/C"), content(os.path.join(folder, "elsewhere/D"))))
+    return got, [first] * 7
+
+
+def verified(binary, folder, **more):
+    """A verification with the certificates `C` and the report `P`."""
+    words = [binary, "verify", folder, "--certs", "C", "--report", "P"] + ASKED
+    done = subprocess.run(words, capture_output=True, timeout=60, cwd=folder, **more)
+    return done.returncode, done.stdout.decode(), done.stderr.decode()
+
+
+def verified_reports(binary, folder):
+    """What a scan left, another report, an empty one, none, a link to it; other certificates, none; nothing is changed."""
+    kept(binary, folder, "C")
+    certs, report, got = content(os.path.join(folder, "C")), MISSING.encode(), []
+    for text in (report, b"b" + report[1:], report + b"\n", report[:-1], b""):
+        put(folder, "P", text)
+        got.append(verified(binary, folder))
+    cut(folder, "P")
+    got.append(verified(binary, folder))
+    put(folder, "elsewhere/Q", report)
+    os.symlink("elsewhere/Q", os.path.join(folder, "P"))
+    got.append(verified(binary, folder))
+    for other in (certs[:-1], b"old"):
+        put(folder, "C", other)
+        got.append(verified(binary, folder))
+    left = content(os.path.join(folder, "C")), content(os.path.join(folder, "P"))
+    cut(folder, "C")
+    got.append(verified(binary, folder))
+    differs, accepted = [(1, f"refused: text differs at byte {n}\n", "") for n in (0, len(report), len(report) - 1, 0, 0)], (0, "accepted 5\n", "")
+    backed = [(1, f"refused: query {n} has no backing\n", "") for n in (3, 1, 1)]
+    return (got, left, os.path.exists(os.path.join(folder, "C"))), ([accepted, *differs, accepted, *backed], (b"old", report), False)
+
+
+def folder_as_report(binary, folder):
+    kept(binary, folder, "C")
+    make(folder, "P")
+    return verified(binary, folder), (3, "", "gvis: fault: store P\n")
+
+
+def folder_as_certificates(binary, folder):
+    make(folder, "C")
+    make(folder, "P")
+    return verified(binary, folder), (3, "", "gvis: fault: store C\n")
+
+
+def verdict_to_full_device(binary, folder):
+    with open("/dev/full", "wb") as full:
+        words = [binary, "verify", folder, "--certs", "C", "--report", "P"] + ASKED
+        done = subprocess.run(words, stdout=full, stderr=subprocess.PIPE, timeout=60, cwd=folder)
+    return (done.returncode, done.stderr), (3, b"gvis: fault: output\n")
+
+
+def demo_to_full_device(binary, folder):
+    with open("/dev/full", "wb") as full:
+        done = subprocess.run([binary, "demo", "1"], stdout=full, stderr=subprocess.PIPE, timeout=60, cwd=folder)
+    return (done.returncode, done.stderr), (3, b"gvis: fault: output\n")
+
+
+def demo_in_a_folder(binary, folder):
+    """Nothing is read or left there."""
+    before = sorted(os.listdir(folder))
+    done = subprocess.run([binary, "demo", "1"], capture_output=True, timeout=60, cwd=folder)
+    return (done.returncode, done.stdout, done.stderr, sorted(os.listdir(folder))), (
+        0, b"packages 1000\nqueries 12000\nreports 506\nbytes 41095\n", b"", before)
+
+
+def small_files_only(then, most=5):
+    def before():
+        signal.signal(signal.SIGXFSZ, then)
+        resource.setrlimit(resource.RLIMIT_FSIZE, (most, most))
+    return before
+
+
+def no_room(binary, folder):
+    """Files of five bytes at most: the new one is taken away, the old one stays."""
+    put(folder, "certs/C", b"old")
+    got = kept(binary, folder, "certs/C", preexec_fn=small_files_only(signal.SIG_IGN), restore_signals=False)
+    return got + (content(os.path.join(folder, "certs/C")),), (3, "gvis: fault: store certs/C\n", False, ["C"], b"old")
+
+
+def ended_in_the_middle(binary, folder):
+    """Ended by a signal while it writes: the old file stays, and the next run isn't hindered by what is left beside it."""
+    put(folder, "certs/C", b"old")
+    first = kept(binary, folder, "certs/C", preexec_fn=small_files_only(signal.SIG_DFL))
+    got = (first[0], content(os.path.join(folder, "certs/C"))) + kept(binary, folder, "certs/C")[:3]
+    return got, (-signal.SIGXFSZ, b"old", 1, "", True)
+
+
+def at_each_length(binary, folder):
+    """Ended by a signal at the first byte, within and right before the last one of the new file: the old file stays."""
+    make(folder, "certs")
+    kept(binary, folder, "certs/C")
+    whole = len(content(os.path.join(folder, "certs/C")))
+    put(folder, "certs/C", b"old")
+    got = []
+    for most in (0, 1, whole // 2, whole - 1):
+        done = kept(binary, folder, "certs/C", preexec_fn=small_files_only(signal.SIG_DFL, most))
+        got.append((done[0], content(os.path.join(folder, "certs/C"))))
+    return got, [(-signal.SIGXFSZ, b"old")] * 4
+
+
+def killed_at_any_moment(binary, folder):
+    """Killed after ever longer times, until a run ends by itself: at FILE stand the old bytes or all of the new ones."""
+    wide(folder)
+    make(folder, "certs")
+    path = os.path.join(folder, "certs/C")
+    want = kept(binary, folder, "certs/C"), content(path)
+    torn, wait, code = [], 0.0, -signal.SIGKILL
+    while code == -signal.SIGKILL:
+        put(folder, "certs/C", b"old")
+        with subprocess.Popen([binary, "scan", folder, "--certs", path] + ASKED, stdout=subprocess.DEVNULL) as run:
+            try:
+                run.wait(wait)
+            except subprocess.TimeoutExpired:
+                run.kill()
+            code = run.wait()
+        if content(path) not in (b"old", want[1]):
+            torn.append(wait)
+        wait += 0.002
+    for name in os.listdir(os.path.join(folder, "certs")):
+        if name != "C":
+            cut(folder, "certs/" + name)
+    return (torn, (kept(binary, folder, "certs/C"), content(path))), ([], want)
+
+
+def wide(folder):
+    """A report of one long line, and certificates of some length."""
+    entry = ENTRY.replace(b"RDEPEND=x/y", b"RDEPEND=|| ( " + b"x/y " * 20000 + b")")
+    put(folder, "metadata/md5-cache/app/p-1", entry)
+
+
+def written(binary, folder, certs="C", err=subprocess.PIPE, **more):
+    """The status, what stands on standard error, and what the file of the certificates begins with."""
+    words = [binary, "scan", folder, "--certs", os.path.join(folder, certs)] + ASKED
+    done = subprocess.run(words, stderr=err, timeout=60, **more)
+    begins = content(os.path.join(folder, certs))[:10] if certs == "C" else None
+    return done.returncode, (done.stderr or b"").decode(), begins
+
+
+FAULT_OF_OUTPUT = (3, "gvis: fault: output\n", HEADER)
+
+
+def output_to_full_device(binary, folder):
+    with open("/dev/full", "wb") as out:
+        return written(binary, folder, stdout=out), FAULT_OF_OUTPUT
+
+
+def closed_output(binary, folder):
+    return written(binary, folder, preexec_fn=lambda: os.close(1)), FAULT_OF_OUTPUT
+
+
+def closed_input(binary, folder):
+    return written(binary, folder, preexec_fn=lambda: os.close(0), stdout=subprocess.DEVNULL), (1, "", HEADER)
+
+
+def closed_standard_error(binary, folder):
+    cut(folder, "profiles/categories")
+    return written(binary, folder, "none", err=None, preexec_fn=lambda: os.close(2), stdout=subprocess.DEVNULL), (6, "", None)
+
+
+def standard_error_to_full_device(binary, folder):
+    cut(folder, "profiles/categories")
+    with open("/dev/full", "wb") as err:
+        return written(binary, folder, "none", err=err, stdout=subprocess.DEVNULL), (6, "", None)
+
+
+def pipe_that_closes_early(binary, folder):
+    """Who reads takes one byte of a report that no pipe holds whole, and closes."""
+    wide(folder)
+    words = [binary, "scan", folder, "--certs", os.path.join(folder, "C")] + ASKED
+    with subprocess.Popen(words, stdout=subprocess.PIPE, stderr=subprocess.PIPE, restore_signals=False) as run:
+        first = run.stdout.read(1)
+        run.stdout.close()
+        err = run.stderr.read().decode()
+    got = (run.returncode, err, content(os.path.join(folder, "C"))[:10])
+    return (first,) + got, (b"a",) + FAULT_OF_OUTPUT
+
+
+def output_of_small_files(binary, folder):
+    """A file as output that may have five bytes; the certificates go to a device, which has no such limit."""
+    words = [binary, "scan", folder, "--certs", "/dev/null"] + ASKED
+    return small_output(words, folder, small_files_only(signal.SIG_IGN)), (3, "gvis: fault: output\n", b"app/p")
+
+
+def small_output(words, folder, limited):
+    path = os.path.join(folder, "out")
+    with open(path, "wb") as out:
+        done = subprocess.run(words, stdout=out, stderr=subprocess.PIPE, timeout=60, preexec_fn=limited, restore_signals=False)
+    return done.returncode, done.stderr.decode(), content(path)
+
+
+def as_it_is_called(binary, folder):
+    """By the script at the top, the signal of that limit is held back: a fault of the store, and one of the output."""
+    top = os.path.join(folder, "top")
+    for part in ("src", "specs", "proofs", "out"):
+        make(top, "crates/gvis/" + part)
+    put(top, "crates.txt", b"")
+    shutil.copy(os.path.join(os.path.dirname(os.path.abspath(__file__)), "../gvis"), top)
+    shutil.copy(binary, os.path.join(top, "crates/gvis/out/gvis"))
+    put(top, "crates/gvis/out/gvis.built", b"a toolchain\n")
+    script = os.path.join(top, "gvis")
+    put(folder, "certs/C", b"old")
+    limited = small_files_only(signal.SIG_DFL)
+    store = kept(script, folder, "certs/C", preexec_fn=limited) + (content(os.path.join(folder, "certs/C")),)
+    output = small_output([script, "scan", folder, "--certs", "/dev/null"] + ASKED, folder, limited)
+    return (store, output), ((3, "gvis: fault: store certs/C\n", False, ["C"], b"old"), (3, "gvis: fault: output\n", b"app/p"))
+
+
+# A disk of a few pages, full but for the names of its files. Its words are the folder of the disk and then the call.
+FULL_DISK = """
+mount -t tmpfs -o size=64k none "$1" || exit 77
+printf old >"$1/C"
+dd if=/dev/zero of="$1/fill" bs=4096 2>"$1/log"
+: >"$1/out"
+folder=$1
+shift
+if [ "$1" = output ]; then shift; "$@" >"$folder/out"; else shift; "$@"; fi
+status=$?
+echo "$status $(cat "$folder/C") $(wc -c <"$folder/out") $(cd "$folder" && echo *)"
+"""
+
+
+def on_full_disk(binary, folder, what, certs):
+    """What the script says, and what stands on standard error; none where no disk can be mounted here."""
+    make(folder, "disk")
+    disk = os.path.join(folder, "disk")
+    call = [binary, "scan", folder, "--certs", certs] + ASKED
+    words = ["unshare", "--map-root-user", "--mount", "sh", "-c", FULL_DISK, "sh", disk, what] + call
+    try:
+        done = subprocess.run(words, capture_output=True, timeout=60, cwd=folder)
+    except FileNotFoundError:
+        return None
+    if done.returncode == 77 or done.stderr.startswith(b"unshare: "):
+        return None
+    return done.stdout.decode().splitlines()[-1:], done.stderr.decode()
+
+
+def store_on_full_disk(binary, folder):
+    return on_full_disk(binary, folder, "store", "disk/C"), (["3 old 0 C fill log out"], "gvis: fault: store disk/C\n")
+
+
+def output_on_full_disk(binary, folder):
+    return on_full_disk(binary, folder, "output", "C"), (["3 old 0 C fill log out"], "gvis: fault: output\n")
+
+
+KEPT = [new_file, old_file, twice, link_to_a_file, link_to_no_file, links_to_no_file, loop_of_links_as_file,
+        link_below_no_folder, full_device, null_device, folder_as_file, no_folder, pipe_with_a_reader, pipe_without_an_end,
+        endless_device, socket_as_file, used_again, verified_reports, folder_as_report, folder_as_certificates,
+        verdict_to_full_device, demo_to_full_device, demo_in_a_folder, no_room,
+        ended_in_the_middle, at_each_length, killed_at_any_moment, output_to_full_device, closed_output, closed_input,
+        closed_standard_error, standard_error_to_full_device, pipe_that_closes_early, output_of_small_files,
+        as_it_is_called]
+ON_A_DISK = [store_on_full_disk, output_on_full_disk]
+
+
+def for_nobody(binary, folder):
+    """A copy of the program that another user may run, and as whom to run it where the test is root, since root may do all."""
+    os.chmod(folder, 0o755)
+    copied = os.path.join(folder, "gvis")
+    shutil.copy(binary, copied)
+    os.chmod(copied, 0o755)
+    return copied, {"user": NOBODY} if os.getuid() == 0 else {}
+
+
+def without_leave_at(binary, mode, folder):
+    """The folder of the old file may not be written, or not even be entered: the old one stays."""
+    repository(folder)
+    put(folder, "certs/C", b"old")
+    os.chmod(os.path.join(folder, "certs"), mode)
+    copied, more = for_nobody(binary, folder)
+    try:
+        status, err = kept(copied, folder, "certs/C", **more)[:2]
+    finally:
+        os.chmod(os.path.join(folder, "certs"), 0o755)
+    got = status, err, os.listdir(os.path.join(folder, "certs")), content(os.path.join(folder, "certs/C"))
+    return got, (3, "gvis: fault: store certs/C\n", ["C"], b"old")
+
+
+def without_leave_to_read_certificates(binary, folder):
+    """The old file may not be read: it stays, unless it is passed over."""
+    repository(folder)
+    put(folder, "certs/C", b"old")
+    old = os.path.join(folder, "certs/C")
+    os.chmod(old, 0)
+    os.chmod(os.path.join(folder, "certs"), 0o777)
+    copied, more = for_nobody(binary, folder)
+    first = kept(copied, folder, "certs/C", **more)[:2]
+    os.chmod(old, 0o600)
+    got = first, content(old)
+    os.chmod(old, 0)
+    fresh = subprocess.run([copied, "scan", folder, "--certs", "certs/C", "--fresh"] + ASKED, capture_output=True, timeout=60, cwd=folder, **more)
+    os.chmod(old, 0o600)
+    return got + (fresh.returncode, fresh.stderr, content(old)[:10]), ((3, "gvis: fault: store certs/C\n"), b"old", 1, b"", HEADER)
+
+
+def without_leave_to_read_the_report(binary, folder):
+    repository(folder)
+    kept(binary, folder, "C")
+    put(folder, "P", MISSING.encode())
+    os.chmod(os.path.join(folder, "P"), 0)
+    copied, more = for_nobody(binary, folder)
+    return verified(copied, folder, **more), (3, "", "gvis: fault: store P\n")
 
 
 CASES = [
@@ -242,47 +685,50 @@ CASES = [
 ]
 
 
-def without_leave(binary):
-    """As another user where the test is root, since root may read all."""
-    with tempfile.TemporaryDirectory() as folder:
-        repository(folder)
-        if os.getuid() != 0:
-            want = no_leave_to_read(folder)
-            got = scan(binary, folder)
-            os.chmod(os.path.join(folder, "metadata/md5-cache/app"), 0o700)
-            return got, want
-        want = no_leave_to_read(folder)
-        os.chmod(folder, 0o755)
-        copied = os.path.join(folder, "gvis")
-        shutil.copy(binary, copied)
-        os.chmod(copied, 0o755)
-        return scan(copied, folder, user=NOBODY), want
+def without_leave(binary, folder):
+    repository(folder)
+    want = no_leave_to_read(folder)
+    copied, more = for_nobody(binary, folder)
+    try:
+        return scan(copied, folder, **more), want
+    finally:
+        os.chmod(os.path.join(folder, "metadata/md5-cache/app"), 0o700)
+
+
+def changed(binary, case, folder):
+    """A scan of the repository behind a change, which answers what is wanted."""
+    repository(folder)
+    want = case(folder)
+    return scan(binary, folder), want
+
+
+def standing_at(binary, kind, path, folder):
+    repository(folder)
+    replaced(folder, path, kind)
+    return scan(binary, folder), (3, "", "gvis: fault: tree %s\n" % path) if path in READ else (0, "", "")
+
+
+def in_repository(binary, case, folder):
+    repository(folder)
+    return case(binary, folder)
 
 
 def main(binary):
     binary = os.path.abspath(binary)
-    results = []
-    for case in CASES:
-        with tempfile.TemporaryDirectory() as folder:
-            repository(folder)
-            want = case(folder)
-            results.append((case.__name__, scan(binary, folder), want))
-    for kind in (pipe, device, listening):
-        for path in READ + LISTED:
-            with tempfile.TemporaryDirectory() as folder:
-                repository(folder)
-                replaced(folder, path, kind)
-                want = (3, "", "gvis: fault: tree %s\n" % path) if path in READ else (0, "", "")
-                results.append((kind.__name__ + " at " + path, scan(binary, folder), want))
-    results.append(("no_leave_to_read", *without_leave(binary)))
-    with tempfile.TemporaryDirectory() as folder:
-        repository(folder)
-        results.append(("closed_pipe", closed_pipe(binary, folder), (3, "", "gvis: fault: output\n")))
-    wrong = [r for r in results if r[1] != r[2]]
-    for name, got, want in wrong:
-        print(f"{name}: {got!r}\n  wanted: {want!r}")
-    print(f"{len(results) - len(wrong)} passed, {len(wrong)} failed")
-    return 1 if wrong else 0
+    results = [tried(case.__name__, changed, binary, case) for case in CASES]
+    results += [tried(f"{kind.__name__} at {path}", standing_at, binary, kind, path) for kind in (pipe, device, listening) for path in READ + LISTED]
+    results.append(tried("no_leave_to_read", without_leave, binary))
+    results.append(tried("no_leave_to_write", without_leave_at, binary, 0o555))
+    results.append(tried("no_leave_to_enter", without_leave_at, binary, 0))
+    results.append(tried("no_leave_to_read_certificates", without_leave_to_read_certificates, binary))
+    results.append(tried("no_leave_to_read_the_report", without_leave_to_read_the_report, binary))
+    results += [tried(case.__name__, in_repository, binary, case) for case in KEPT + [closed_pipe]]
+    for name, got, want in [tried(case.__name__, in_repository, binary, case) for case in ON_A_DISK]:
+        if got is None:
+            print(f"{name}: not tried, no disk can be mounted here")
+        else:
+            results.append((name, got, want))
+    return tell(results)
 
 
 if __name__ == "__main__":

@@ -1,0 +1,123 @@
+#!/usr/bin/env python3
+"""Counts what the built program does on small trees, where time would tell nothing.
+
+    counts.py BINARY
+
+valgrind counts the calls of what solves, of what lowers and of what takes memory in a scan of a tree with some profiles that
+say the same, and in one of the same tree with more of them. Each distinct query is solved once; what one profile had lowered
+isn't lowered for another; and a query of another profile takes at most MOST calls for memory. Prints the counts, and a line
+for each case that went wrong. Exit status 1 where one went wrong. Where there is no valgrind, prints that nothing was counted.
+"""
+import hashlib
+import os
+import re
+import shutil
+import subprocess
+import sys
+import tempfile
+
+sys.dont_write_bytecode = True
+from results import tell  # noqa: E402
+
+PACKAGES = 40
+FEW, MANY = 3, 9
+# of REQUIRED_USE and of the five classes, in each context
+QUERIES = 6
+# calls for memory that one more query may cost, with its part of a report and of reading the profile
+MOST = 1.5
+SOLVES = "gv_solver::solver::search"
+LOWERS = "gv_lower::finish::finish"
+TAKES = ("rattle_alloc", "rattle_realloc")
+EMPTY = hashlib.md5(b"").hexdigest()
+
+
+def dependencies(n):
+    one, two, three = (f"x/p{(n * k + 1) % (PACKAGES + 2)}" for k in (1, 3, 7))
+    return f"{one} a? ( {two}[b] ) || ( {three}[c?] >={one}-1 )"
+
+
+def put(folder, path, text):
+    path = os.path.join(folder, path)
+    os.makedirs(os.path.dirname(path), exist_ok=True)
+    with open(path, "w", encoding="utf-8") as file:
+        file.write(text)
+
+
+def write_tree(folder, profiles):
+    put(folder, "profiles/categories", "x\n")
+    put(folder, "profiles/profiles.desc", "".join(f"amd64 p{i} stable\n" for i in range(profiles)))
+    put(folder, "profiles/base/eapi", "8\n")
+    put(folder, "profiles/base/use.mask", "c\n")
+    for i in range(profiles):
+        put(folder, f"profiles/p{i}/eapi", "8\n")
+        put(folder, f"profiles/p{i}/parent", "../base\n")
+    for n in range(PACKAGES):
+        lines = ["EAPI=8", "SLOT=0", "KEYWORDS=amd64", "IUSE=a b c", "REQUIRED_USE=?? ( a b )", f"RDEPEND={dependencies(n)}",
+                 f"DEPEND=x/p{n // 2}", f"_md5_={EMPTY}"]
+        put(folder, f"metadata/md5-cache/x/p{n}-1", "\n".join(lines) + "\n")
+        put(folder, f"x/p{n}/p{n}-1.ebuild", "")
+
+
+def calls(listing):
+    """How often each function was called, of a file that callgrind wrote."""
+    names, counts, callee = {}, {}, None
+    for line in listing.split("\n"):
+        found = re.match(r"c?fn=\((\d+)\)(?: (.*))?$", line)
+        if found:
+            names.setdefault(found[1], found[2])
+            callee = found[1]
+        elif line.startswith("calls="):
+            counts[callee] = counts.get(callee, 0) + int(line[6:].split()[0])
+    totals = {}
+    for number, count in counts.items():
+        name = re.sub(r"(::<.*|'\d+)$", "", names[number])
+        totals[name] = totals.get(name, 0) + count
+    return totals
+
+
+def records_in(file):
+    """How many records a file of certificates has."""
+    at, found = 10, 0
+    while at < len(file):
+        for _ in range(2):
+            at += 8 + int.from_bytes(file[at:at + 8], "big")
+        found += 1
+    return found
+
+
+def count(binary, folder, profiles):
+    """The calls that were counted in a scan, the records that it wrote and the calls for memory."""
+    tree, certs, listing = (os.path.join(folder, f"{name}{profiles}") for name in ("R", "C", "calls"))
+    write_tree(tree, profiles)
+    words = ["valgrind", "--tool=callgrind", f"--callgrind-out-file={listing}", binary, "scan", tree, "--certs", certs, "--fresh"]
+    done = subprocess.run(words, capture_output=True, text=True, timeout=600)
+    if done.returncode not in (0, 1):
+        sys.exit(f"{words} ended with {done.returncode}: {done.stderr}")
+    with open(listing, encoding="utf-8", errors="replace") as file:
+        counted = calls(file.read())
+    with open(certs, "rb") as file:
+        records = records_in(file.read())
+    return counted, records, sum(counted.get(name, 0) for name in TAKES)
+
+
+def main(binary):
+    if not shutil.which("valgrind"):
+        print("nothing was counted: there is no valgrind")
+        return 0
+    with tempfile.TemporaryDirectory() as folder:
+        few, many = (count(os.path.abspath(binary), folder, profiles) for profiles in (FEW, MANY))
+    results = []
+    for profiles, (counted, records, _) in ((FEW, few), (MANY, many)):
+        results.append((f"each distinct query solved once, with {profiles} profiles", counted.get(SOLVES), records))
+    lowered = [counted.get(LOWERS, 0) for counted, _, _ in (few, many)]
+    results.append(("what one profile had lowered not lowered for another", lowered, [QUERIES * PACKAGES] * 2))
+    each = (many[2] - few[2]) / ((MANY - FEW) * PACKAGES * QUERIES)
+    results.append((f"calls for memory of one more query, {each:.2f}, at most {MOST}", each <= MOST, True))
+    print(f"{few[1]} solved, {lowered[1]} lowered, {each:.2f} calls for memory a query of one more profile")
+    return tell(results)
+
+
+if __name__ == "__main__":
+    if len(sys.argv) != 2:
+        sys.exit(__doc__)
+    sys.exit(main(sys.argv[1]))
