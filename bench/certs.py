@@ -12,7 +12,7 @@ import random
 import sys
 import tempfile
 
-from core import build, timed
+from programs import build, timed
 
 PROGRAM = """//! Times `read_known`, a `find` for each record, and `write_known`, on a certificate file that comes in.
 #![tactic(auto)]

@@ -6,6 +6,7 @@
     core.py solve      the solver on a question of 42 inputs, on 10,000 small ones, and on a random one of 60 inputs
     core.py large [CHECKOUT ..]   the solver on random questions of 80 to 400 inputs, 20 seeds each, beside the solver of
                        other checkouts and those of Debian's packages, in one run
+    core.py beside PROGRAM ..     the same of programs that were built of `solve`'s source before
 
 It copies the crates and a program that calls them into a folder of its own, has `rt run` prove and build that, runs it
 and prints what it says: microseconds, or for `solve` how many questions were refuted, found and spent. The questions
@@ -22,7 +23,7 @@ import sys
 import tempfile
 import time
 
-TOP = os.path.dirname(os.path.dirname(os.path.abspath(__file__)))
+from programs import build, timed
 
 CHECK = """//! Times `check` on a chain of implications: variable 0 is on, and each is on where the one before is.
 #![tactic(auto)]
@@ -258,34 +259,6 @@ def random_groups(draw, inputs, count):
     return all_of(inputs, [[2 * i + draw.randrange(2) for i in draw.sample(range(inputs), 3)] for _ in range(count)])
 
 
-def build(folder, source, proof, deps, top=TOP):
-    shutil.copytree(os.path.join(top, "crates"), os.path.join(folder, "crates"), ignore=shutil.ignore_patterns("out", "must-fail"))
-    with open(os.path.join(top, "crates.txt")) as f:
-        lines = f.read()
-    crate = os.path.join(folder, "crates", "measure")
-    os.makedirs(os.path.join(crate, "src"))
-    with open(os.path.join(folder, "crates.txt"), "w") as f:
-        f.write(lines + f"measure: {deps}\n")
-    with open(os.path.join(crate, "src/main.rt"), "w") as f:
-        f.write(source)
-    for path, text in proof.items():
-        os.makedirs(os.path.dirname(os.path.join(crate, path)), exist_ok=True)
-        with open(os.path.join(crate, path), "w") as f:
-            f.write(text)
-    done = subprocess.run(["rt", "run"], cwd=crate, stdin=subprocess.DEVNULL, capture_output=True, text=True)
-    program = os.path.join(crate, "out/measure")
-    if not os.path.exists(program):
-        sys.exit(done.stdout + done.stderr)
-    return program
-
-
-def timed(program, question):
-    start = time.perf_counter()
-    done = subprocess.run([program], input=question, capture_output=True)
-    took = time.perf_counter() - start
-    return done.stdout.decode().strip() + done.stderr.decode().strip(), took
-
-
 def question(gates):
     return number(len(gates)) + gates
 
@@ -332,7 +305,10 @@ def beside(gates):
 LIMIT = 5
 
 # inputs and groups of three: at the threshold of 4.3 groups an input, and below
-SIZES = ((80, 344), (100, 430), (120, 516), (100, 350), (150, 480), (200, 640), (300, 900), (400, 1200))
+SIZES = (
+    (80, 344), (100, 430), (120, 516), (150, 645),
+    (100, 350), (150, 480), (200, 640), (300, 900), (400, 1200),
+)
 
 
 def ended(command, given=None):
@@ -417,6 +393,8 @@ def main(what, checkouts):
             print(timed(build(folder, ENCODE, {}, "gv_base gv_logic gv_encode anyhow"), circuit(2, gates, 2 * 100_001))[0])
         elif what == "large":
             large(folder, checkouts)
+        elif what == "beside":
+            compare([(os.path.basename(program), program) for program in checkouts])
         else:
             deps = "gv_base gv_logic gv_encode gv_refute gv_solver anyhow"
             program = build(folder, SOLVE, {"proofs/main/Invariants.antt": SOLVE_PROOF}, deps)
@@ -434,6 +412,6 @@ def main(what, checkouts):
 
 
 if __name__ == "__main__":
-    if sys.argv[1:] not in (["check"], ["encode"], ["solve"]) and sys.argv[1:2] != ["large"]:
+    if sys.argv[1:] not in (["check"], ["encode"], ["solve"]) and sys.argv[1:2] not in (["large"], ["beside"]):
         sys.exit(__doc__)
     main(sys.argv[1], sys.argv[2:])

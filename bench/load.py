@@ -16,6 +16,8 @@ import subprocess
 import sys
 import time
 
+from make_tree import put
+
 CATEGORIES = 150
 FLAGS = ["doc", "nls", "test", "static-libs", "debug", "examples"]
 PYTHONS = "python_targets_python3_11(-)?,python_targets_python3_12(-)?"
@@ -23,13 +25,6 @@ PYTHONS = "python_targets_python3_11(-)?,python_targets_python3_12(-)?"
 
 def name(number):
     return "cat%03d/pkg%d" % (number % CATEGORIES, number // 2)
-
-
-def put(folder, path, text):
-    path = os.path.join(folder, path)
-    os.makedirs(os.path.dirname(path), exist_ok=True)
-    with open(path, "w") as file:
-        file.write(text)
 
 
 def atoms(draw, entries, count):
@@ -107,6 +102,6 @@ def main(binary, folder, entries=30000, profiles=40):
 
 
 if __name__ == "__main__":
-    if not 3 <= len(sys.argv) <= 5:
+    if not 3 <= len(sys.argv) <= 5 or not all(word.isdigit() for word in sys.argv[3:]):
         sys.exit(__doc__)
     main(os.path.abspath(sys.argv[1]), *sys.argv[2:])

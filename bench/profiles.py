@@ -12,7 +12,7 @@ import random
 import sys
 import tempfile
 
-from core import build, timed
+from programs import INPUT, build, timed
 
 PROGRAM = """//! Times `fold` on directories that come in, with `|` between them: the path of one, and then lines with the name of a
 //! file and a line of it. Whatever is wrong with the input ends the program.
@@ -26,10 +26,7 @@ use std::io::Read;
 use std::process::Abort;
 use std::time::Instant;
 
-fn text<R: Abort>(rt: &R, alloc: Global, bytes: &str) -> Text {
-    Text::of(alloc, bytes.as_bytes()).expect(rt, "memory")
-}
-
+""" + INPUT + """
 /// The texts of a directory's files, so far.
 #[derive(Drop)]
 struct Texts {
@@ -130,10 +127,8 @@ fn count_on(profile: &Profile) -> u64 {
 
 fn main(rt: HostRuntime) {
     let alloc = rt.alloc();
-    let mut bytes = Vec::new(alloc);
-    let read = rt.reader().read_to_end(&mut bytes);
-    read.ok().expect(&rt, "the input");
-    let input = std::str::from_utf8(&bytes).ok().expect(&rt, "a text");
+    let bytes = bytes_in(&rt).expect(&rt, "the input");
+    let input = text_of(&rt, &bytes);
     let dirs = put_all(&rt, alloc, input);
     let line = DescLine {
         number: 1,

@@ -18,6 +18,7 @@ import sys
 import tempfile
 
 import core
+from programs import build
 
 SOURCE = """//! Solves the question that comes in and writes the steps of its refutation, each number in four bytes.
 #![tactic(auto)]
@@ -193,7 +194,7 @@ def main(folder):
     deps = "gv_base gv_logic gv_encode gv_refute gv_solver anyhow"
     good = True
     with tempfile.TemporaryDirectory() as made:
-        program = core.build(made, SOURCE, {"proofs/main/Invariants.antt": core.SOLVE_PROOF}, deps)
+        program = build(made, SOURCE, {"proofs/main/Invariants.antt": core.SOLVE_PROOF}, deps)
         questions = [("pairs", core.pairs())]
         for inputs, groups in ((40, 172), (60, 258), (80, 344), (100, 430)):
             draw = random.Random(inputs)
@@ -215,6 +216,6 @@ def main(folder):
 
 
 if __name__ == "__main__":
-    if len(sys.argv) > 2:
+    if len(sys.argv) > 2 or sys.argv[1:2] == ["--help"]:
         sys.exit(__doc__)
     sys.exit(main(sys.argv[1] if len(sys.argv) == 2 else None))

@@ -13,7 +13,7 @@ import subprocess
 import sys
 import tempfile
 
-from core import build
+from programs import INPUT, OPTIONS, build
 
 PROGRAM = """//! Orders and writes reports that come in, each a line `KEYWORD|SUBJECT|CLASS|CONTEXT|WITNESS|DETAIL`, where an empty part
 //! isn't there. The first line says in which form. Whatever is wrong with the input ends the program.
@@ -28,22 +28,7 @@ use std::io::Read;
 use std::process::Abort;
 use std::time::Instant;
 
-const KEYWORDS: [Keyword; 13] = [
-    Keyword::ProfileError,
-    Keyword::ProfileNote,
-    Keyword::MetadataError,
-    Keyword::StaleCache,
-    Keyword::OrphanCache,
-    Keyword::MissingCache,
-    Keyword::NonexistentDeps,
-    Keyword::NonsolvableDepsInStable,
-    Keyword::NonsolvableDepsInDev,
-    Keyword::NonsolvableDepsInExp,
-    Keyword::UnsatisfiableRequiredUse,
-    Keyword::UnstatedIuse,
-    Keyword::VisibleVcsPkg,
-];
-
+""" + OPTIONS + """
 const CLASSES: [Class; 6] = [
     Class::Required,
     Class::Depend,
@@ -53,10 +38,7 @@ const CLASSES: [Class; 6] = [
     Class::Idepend,
 ];
 
-fn text<R: Abort>(rt: &R, alloc: Global, bytes: &str) -> Text {
-    Text::of(alloc, bytes.as_bytes()).expect(rt, "memory")
-}
-
+""" + INPUT + """
 fn some_text<R: Abort>(rt: &R, alloc: Global, bytes: &str) -> Option<Text> {
     if bytes.is_empty() { None } else { Some(text(rt, alloc, bytes)) }
 }
@@ -83,7 +65,7 @@ fn class(name: &str) -> Option<Class> {
     None
 }
 
-fn part<'a>(line: &'a str, separator: char, at: usize) -> &'a str {
+fn piece<'a>(line: &'a str, separator: char, at: usize) -> &'a str {
     line.split(separator).nth(at).unwrap_or("")
 }
 
@@ -94,10 +76,10 @@ fn subject<R: Abort>(rt: &R, alloc: Global, words: &str) -> Subject {
             line: number(rt, line),
         },
         None => Subject::Package {
-            category: text(rt, alloc, part(words, '/', 0)),
-            name: text(rt, alloc, part(words, '/', 1)),
-            version: read_version(alloc, part(words, '/', 2).as_bytes()).expect(rt, "a version"),
-            pf: text(rt, alloc, part(words, '/', 3)),
+            category: text(rt, alloc, piece(words, '/', 0)),
+            name: text(rt, alloc, piece(words, '/', 1)),
+            version: read_version(alloc, piece(words, '/', 2).as_bytes()).expect(rt, "a version"),
+            pf: text(rt, alloc, piece(words, '/', 3)),
         },
     }
 }
@@ -107,30 +89,22 @@ fn context<R: Abort>(rt: &R, alloc: Global, words: &str) -> Option<ContextName> 
         return None;
     }
     Some(ContextName {
-        line: number(rt, part(words, ' ', 0)),
-        arch: text(rt, alloc, part(words, ' ', 1)),
-        path: text(rt, alloc, part(words, ' ', 2)),
-        level: if part(words, ' ', 3) == "stable" { Level::Stable } else { Level::Testing },
+        line: number(rt, piece(words, ' ', 0)),
+        arch: text(rt, alloc, piece(words, ' ', 1)),
+        path: text(rt, alloc, piece(words, ' ', 2)),
+        level: if piece(words, ' ', 3) == "stable" { Level::Stable } else { Level::Testing },
     })
 }
 
 fn report<R: Abort>(rt: &R, alloc: Global, line: &str) -> Report {
     Report {
-        subject: subject(rt, alloc, part(line, '|', 1)),
-        keyword: keyword(rt, part(line, '|', 0)),
-        class: class(part(line, '|', 2)),
-        context: context(rt, alloc, part(line, '|', 3)),
-        witness: some_text(rt, alloc, part(line, '|', 4)),
-        detail: some_text(rt, alloc, part(line, '|', 5)),
+        subject: subject(rt, alloc, piece(line, '|', 1)),
+        keyword: keyword(rt, piece(line, '|', 0)),
+        class: class(piece(line, '|', 2)),
+        context: context(rt, alloc, piece(line, '|', 3)),
+        witness: some_text(rt, alloc, piece(line, '|', 4)),
+        detail: some_text(rt, alloc, piece(line, '|', 5)),
     }
-}
-
-fn options<R: Abort>(rt: &R, alloc: Global, json: bool) -> Options {
-    let mut keywords = Keywords::new(alloc);
-    for keyword in KEYWORDS {
-        keywords.add(keyword).expect(rt, "memory");
-    }
-    Options { keywords, profiles: None, json, budget: 65536 }
 }
 
 fn emitted<R: Abort>(rt: &R, alloc: Global, options: &Options, reports: &Reports) -> Text {
@@ -141,10 +115,8 @@ fn emitted<R: Abort>(rt: &R, alloc: Global, options: &Options, reports: &Reports
 
 fn main(rt: HostRuntime) {
     let alloc = rt.alloc();
-    let mut bytes = Vec::new(alloc);
-    let read = rt.reader().read_to_end(&mut bytes);
-    read.ok().expect(&rt, "the input");
-    let input = std::str::from_utf8(&bytes).ok().expect(&rt, "a text");
+    let bytes = bytes_in(&rt).expect(&rt, "the input");
+    let input = text_of(&rt, &bytes);
     let (form, lines) = input.split_once('\\n').expect(&rt, "a form");
     let options = options(&rt, alloc, form == "json");
     let mut reports = Reports::new(alloc);

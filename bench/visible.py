@@ -11,7 +11,8 @@ import random
 import sys
 import tempfile
 
-from core import build, timed
+from packages import PKGS, PROFILE, joined
+from programs import INPUT, build, timed
 
 PROGRAM = """//! Times `state` and `next` on packages, masks, rules, flags and atoms that come in, a line each. Whatever is wrong with
 //! the input ends the program.
@@ -31,94 +32,9 @@ use std::io::Read;
 use std::process::Abort;
 use std::time::Instant;
 
-fn text<R: Abort>(rt: &R, alloc: Global, bytes: &str) -> Text {
-    Text::of(alloc, bytes.as_bytes()).expect(rt, "memory")
-}
-
-fn texts<R: Abort>(rt: &R, alloc: Global, words: &str) -> Texts {
-    words_of(alloc, words.as_bytes()).expect(rt, "memory")
-}
-
-fn atom<R: Abort>(rt: &R, alloc: Global, bytes: &str) -> Atom {
-    read_atom(alloc, bytes.as_bytes()).expect(rt, "an atom")
-}
-
-fn pkg<R: Abort>(
-    rt: &R,
-    alloc: Global,
-    category: &str,
-    name: &str,
-    version: &str,
-    keyword: &str,
-) -> Pkg {
-    Pkg {
-        category: text(rt, alloc, category),
-        name: text(rt, alloc, name),
-        version: read_version(alloc, version.as_bytes()).expect(rt, "a version"),
-        pf: text(rt, alloc, name),
-        eapi: Eapi::Eight,
-        slot: text(rt, alloc, "0"),
-        sub: text(rt, alloc, "0"),
-        keywords: texts(rt, alloc, keyword),
-        iuse: texts(rt, alloc, "flag0 flag1 flag2 flag3 flag4 flag5 flag6 flag7"),
-        iuse_plus: texts(rt, alloc, ""),
-        live: false,
-    }
-}
-
-fn pkgs<R: Abort>(rt: &R, alloc: Global, lines: &str) -> Pkgs {
-    let mut pkgs = Pkgs::new(alloc);
-    for line in lines.lines() {
-        let mut words = line.split(' ');
-        if let (Some(category), Some(name), Some(version), Some(keyword)) =
-            (words.next(), words.next(), words.next(), words.next())
-        {
-            let pkg = pkg(rt, alloc, category, name, version, keyword);
-            pkgs.add(pkg).expect(rt, "memory");
-        }
-    }
-    pkgs
-}
-
-fn masks<R: Abort>(rt: &R, alloc: Global, lines: &str) -> Masks {
-    let mut masks = Masks::new(alloc);
-    for line in lines.lines() {
-        let mask = Mask {
-            text: text(rt, alloc, line),
-            atom: atom(rt, alloc, line),
-        };
-        masks.add(mask).expect(rt, "memory");
-    }
-    masks
-}
-
-fn rule<R: Abort>(rt: &R, alloc: Global, line: &str) -> Rule {
-    let (kind, rest) = line.split_once(' ').expect(rt, "a kind");
-    let (atom, flag) = match rest.split_once(' ') {
-        Some((bytes, flag)) => (Some(atom(rt, alloc, bytes)), flag),
-        None => (None, rest),
-    };
-    Rule {
-        effect: if kind.ends_with("mask") {
-            Effect::Mask
-        } else {
-            Effect::Force
-        },
-        stable: kind.starts_with("stable"),
-        atom,
-        flag: text(rt, alloc, flag),
-        on: true,
-    }
-}
-
-fn rules<R: Abort>(rt: &R, alloc: Global, lines: &str) -> Rules {
-    let mut rules = Rules::new(alloc);
-    for line in lines.lines() {
-        rules.add(rule(rt, alloc, line)).expect(rt, "memory");
-    }
-    rules
-}
-
+""" + INPUT + """
+""" + PKGS + """
+""" + PROFILE + """
 fn values<R: Abort>(rt: &R, alloc: Global, lines: &str) -> ValueLists {
     let mut values = ValueLists::new(alloc);
     for line in lines.lines() {
@@ -133,20 +49,14 @@ fn values<R: Abort>(rt: &R, alloc: Global, lines: &str) -> ValueLists {
     values
 }
 
-fn profile<R: Abort>(rt: &R, alloc: Global, masks: Masks, rules: Rules) -> Profile {
-    Profile {
-        line: 1,
-        arch: text(rt, alloc, "amd64"),
-        path: text(rt, alloc, "base"),
-        status: Status::Stable,
-        iuse_implicit: texts(rt, alloc, "prefix prefix-guest prefix-stack"),
-        expand: texts(rt, alloc, "CPU_FLAGS_X86 ELIBC KERNEL PYTHON_TARGETS RUBY_TARGETS VIDEO_CARDS"),
-        expand_implicit: texts(rt, alloc, "ARCH ELIBC KERNEL"),
-        unprefixed: texts(rt, alloc, "ARCH"),
-        values: values(rt, alloc, "ELIBC glibc musl\\nKERNEL linux\\nARCH amd64 x86 arm64"),
-        masks,
-        rules,
-    }
+// The profile with its variables.
+fn with_values<R: Abort>(rt: &R, alloc: Global, mut profile: Profile) -> Profile {
+    profile.iuse_implicit = texts(rt, alloc, "prefix prefix-guest prefix-stack");
+    profile.expand = texts(rt, alloc, "CPU_FLAGS_X86 ELIBC KERNEL PYTHON_TARGETS RUBY_TARGETS VIDEO_CARDS");
+    profile.expand_implicit = texts(rt, alloc, "ARCH ELIBC KERNEL");
+    profile.unprefixed = texts(rt, alloc, "ARCH");
+    profile.values = values(rt, alloc, "ELIBC glibc musl\\nKERNEL linux\\nARCH amd64 x86 arm64");
+    profile
 }
 
 fn atoms<R: Abort>(rt: &R, alloc: Global, lines: &str) -> Vec<Atom> {
@@ -195,19 +105,14 @@ fn search<R: Abort>(rt: &R, alloc: Global, pkgs: &Pkgs, profile: &Profile, atoms
     found
 }
 
-fn part<'a, R: Abort>(rt: &R, input: &'a str, number: usize) -> &'a str {
-    input.split('|').nth(number).expect(rt, "a part")
-}
-
 fn main(rt: HostRuntime) {
     let alloc = rt.alloc();
-    let mut bytes = Vec::new(alloc);
-    let read = rt.reader().read_to_end(&mut bytes);
-    read.ok().expect(&rt, "the input");
-    let input = std::str::from_utf8(&bytes).ok().expect(&rt, "a text");
+    let bytes = bytes_in(&rt).expect(&rt, "the input");
+    let input = text_of(&rt, &bytes);
     let pkgs = pkgs(&rt, alloc, part(&rt, input, 0));
     let masks = masks(&rt, alloc, part(&rt, input, 1));
-    let profile = profile(&rt, alloc, masks, rules(&rt, alloc, part(&rt, input, 2)));
+    let profile = profile(&rt, alloc, 1, masks, rules(&rt, alloc, part(&rt, input, 2)));
+    let profile = with_values(&rt, alloc, profile);
     let flags = texts(&rt, alloc, part(&rt, input, 3));
     let atoms = atoms(&rt, alloc, part(&rt, input, 4));
     let start = Instant::now(&rt).ok().expect(&rt, "a clock");
@@ -222,13 +127,16 @@ fn main(rt: HostRuntime) {
 """
 
 
+FLAGS = "flag0 flag1 flag2 flag3 flag4 flag5 flag6 flag7"
+
+
 def made(draw):
     """The parts of the input: packages, masks, rules, flags, atoms."""
     names = [(f"cat{n % 100}", f"name{n}") for n in range(6000)]
     pkgs = []
     for category, name in names:
         for version in range(5):
-            pkgs.append(f"{category} {name} {version + 1}.{draw.randrange(10)} {draw.choice(['amd64', 'amd64', '~amd64', 'x86'])}")
+            pkgs.append(f"{category} {name} {version + 1}.{draw.randrange(10)} {draw.choice(['amd64', 'amd64', '~amd64', 'x86'])};{FLAGS}")
     masks = []
     for category, name in draw.sample(names, 600):
         masks.append(draw.choice([f"{category}/{name}", f"<{category}/{name}-3", f"={category}/{name}-2*", f">={category}/{name}-4"]))
@@ -244,13 +152,13 @@ def made(draw):
     for _ in range(100_000):
         category, name = draw.choice(names)
         atoms.append(draw.choice([f"{category}/{name}", f">={category}/{name}-2", f"<{category}/{name}-4.5", f"={category}/{name}-3*"]))
-    return "|".join("\n".join(part) for part in (pkgs, masks, rules, [" ".join(flags)], atoms))
+    return joined(pkgs, masks, rules, " ".join(flags), atoms)
 
 
 def main():
     deps = "gv_base gv_version gv_atom gv_facts gv_usestate gv_visible"
     with tempfile.TemporaryDirectory() as folder:
-        print(timed(build(folder, PROGRAM, {}, deps), made(random.Random(1)).encode())[0])
+        print(timed(build(folder, PROGRAM, {}, deps), made(random.Random(1)))[0])
 
 
 if __name__ == "__main__":
