@@ -25,8 +25,10 @@ FEW, MANY = 3, 9
 QUERIES = 6
 # calls for memory that one more query may cost, with its part of a report and of reading the profile
 MOST = 1.5
-SOLVES = "gv_solver::solver::search"
-LOWERS = "gv_lower::finish::finish"
+# Each is called once where a query is solved in a fresh scan, and once where one is lowered: counted is the first that the
+# compiler left standing, since it may write a function into its one caller.
+SOLVES = ("gv_solver::solver::search", "gv_solver::solver::solve", "gv_query::asking::ask", "gv_encode::encoding::encode")
+LOWERS = ("gv_lower::finish::finish",)
 TAKES = ("rattle_alloc", "rattle_realloc")
 EMPTY = hashlib.md5(b"").hexdigest()
 
@@ -75,6 +77,11 @@ def calls(listing):
     return totals
 
 
+def first_of(counted, names):
+    """The calls of the first of these functions that was called, and None where none was."""
+    return next((counted[name] for name in names if name in counted), None)
+
+
 def records_in(file):
     """How many records a file of certificates has."""
     at, found = 10, 0
@@ -108,8 +115,8 @@ def main(binary):
         few, many = (count(os.path.abspath(binary), folder, profiles) for profiles in (FEW, MANY))
     results = []
     for profiles, (counted, records, _) in ((FEW, few), (MANY, many)):
-        results.append((f"each distinct query solved once, with {profiles} profiles", counted.get(SOLVES), records))
-    lowered = [counted.get(LOWERS, 0) for counted, _, _ in (few, many)]
+        results.append((f"each distinct query solved once, with {profiles} profiles", first_of(counted, SOLVES), records))
+    lowered = [first_of(counted, LOWERS) for counted, _, _ in (few, many)]
     results.append(("what one profile had lowered not lowered for another", lowered, [QUERIES * PACKAGES] * 2))
     each = (many[2] - few[2]) / ((MANY - FEW) * PACKAGES * QUERIES)
     results.append((f"calls for memory of one more query, {each:.2f}, at most {MOST}", each <= MOST, True))
