@@ -115,6 +115,35 @@ fn add_or(
     add_whole(alloc, clauses, off, operands)
 }
 
+// The two clauses of a gate over one literal.
+fn add_single(
+    alloc: Global,
+    clauses: &mut Clauses,
+    place: u32,
+    op: Op,
+    lit: Lit,
+) -> Result<(), NoMemory>
+    requires few { clauses.old.variables ≤ 2 ^ 30 }
+    requires place { place < clauses.old.variables }
+    requires earlier { lit < 2 * place }
+    ensures { OnOk result (clauses.new ≡ record clauses.old {
+      clauses = clauses.old.clauses ++ op_clauses place op (lit ∷ []);
+    }) }
+{
+    let forth = Clause::of(alloc, &[Lit(2 * place + 1), lit])?;
+    let back = Clause::of(alloc, &[Lit(2 * place), lit.opposite()])?;
+    match op {
+        Op::And => {
+            clauses.add(forth)?;
+            clauses.add(back)
+        }
+        Op::Or => {
+            clauses.add(back)?;
+            clauses.add(forth)
+        }
+    }
+}
+
 fn add_gate(
     alloc: Global,
     clauses: &mut Clauses,
@@ -129,8 +158,9 @@ fn add_gate(
       clauses = clauses.old.clauses ++ op_clauses place op operands.now;
     }) }
 {
-    match op {
-        Op::And => add_and(alloc, clauses, place, operands),
-        Op::Or => add_or(alloc, clauses, place, operands),
+    match (operands, op) {
+        ([one], _) => add_single(alloc, clauses, place, op, *one),
+        (_, Op::And) => add_and(alloc, clauses, place, operands),
+        (_, Op::Or) => add_or(alloc, clauses, place, operands),
     }
 }

@@ -38,7 +38,7 @@ impl Bits {
             return Err(NoMemory);
         }
         Ok(Bits {
-            items: bits.to_vec(alloc)?,
+            items: Vec::from_slice(alloc, bits)?,
         })
     }
 
@@ -67,7 +67,7 @@ impl Bits {
         ensures { IfOk result (λ bits. bits ≡ self.now) }
     {
         Ok(Bits {
-            items: self.items.to_vec(alloc)?,
+            items: Vec::from_slice(alloc, &self.items)?,
         })
     }
 }

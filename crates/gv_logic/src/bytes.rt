@@ -39,6 +39,7 @@ fn put_numbers(bytes: &mut Text, lits: &[Lit]) -> Result<(), NoMemory>
     Ok(())
 }
 
+#[tactic(auto, unfolding(crate::specs::Bytes::number_bytes))]
 fn put_gate(bytes: &mut Text, op: Op, operands: &[Lit]) -> Result<(), NoMemory>
     requires { length operands.now < 2 ^ 32 }
     ensures { OnOk result (bytes.new ≡ bytes.old ++ gate_bytes (record { op = op; operands = operands.now })) }
@@ -47,7 +48,15 @@ fn put_gate(bytes: &mut Text, op: Op, operands: &[Lit]) -> Result<(), NoMemory>
         Op::And => 0,
         Op::Or => 1,
     };
-    bytes.append(&[word])?;
-    put_number(bytes, operands.len() as u32)?;
-    put_numbers(bytes, operands)
+    let [a, b, c, d] = (operands.len() as u32).to_be_bytes();
+    match operands {
+        [one] => {
+            let [e, f, g, h] = one.0.to_be_bytes();
+            bytes.append(&[word, a, b, c, d, e, f, g, h])
+        }
+        _ => {
+            bytes.append(&[word, a, b, c, d])?;
+            put_numbers(bytes, operands)
+        }
+    }
 }

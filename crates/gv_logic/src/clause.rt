@@ -42,7 +42,7 @@ impl Clause {
             return Err(NoMemory);
         }
         Ok(Clause {
-            items: lits.to_vec(alloc)?,
+            items: Vec::from_slice(alloc, lits)?,
         })
     }
 
@@ -72,7 +72,7 @@ impl Clause {
         ensures { IfOk result (λ clause. clause ≡ self.now) }
     {
         Ok(Clause {
-            items: self.items.to_vec(alloc)?,
+            items: Vec::from_slice(alloc, &self.items)?,
         })
     }
 }

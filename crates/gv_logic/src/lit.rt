@@ -77,7 +77,7 @@ impl Lits {
             return Err(NoMemory);
         }
         Ok(Lits {
-            items: lits.to_vec(alloc)?,
+            items: Vec::from_slice(alloc, lits)?,
         })
     }
 
@@ -107,7 +107,7 @@ impl Lits {
         ensures { IfOk result (λ lits. lits ≡ self.now) }
     {
         Ok(Lits {
-            items: self.items.to_vec(alloc)?,
+            items: Vec::from_slice(alloc, &self.items)?,
         })
     }
 }

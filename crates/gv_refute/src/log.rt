@@ -41,7 +41,7 @@ impl Hints {
             return Err(NoMemory);
         }
         Ok(Hints {
-            items: hints.to_vec(alloc)?,
+            items: Vec::from_slice(alloc, hints)?,
         })
     }
 
@@ -70,7 +70,7 @@ impl Hints {
         ensures { IfOk result (λ hints. hints ≡ self.now) }
     {
         Ok(Hints {
-            items: self.items.to_vec(alloc)?,
+            items: Vec::from_slice(alloc, &self.items)?,
         })
     }
 }
