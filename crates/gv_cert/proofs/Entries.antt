@@ -3,16 +3,19 @@ use Rattle.std.proofs.Common.{◌≡◌, ℕ, ◌+◌, Bool, true, false, cond, 
 use Rattle.std.specs.Prelude.{Option, Result, Ok, Err, OnErr, unwrap_or, if◌then◌else◌}
 use Rattle.std.proofs.lemmas.Bool.{false≢true}
 use Rattle.std.proofs.lemmas.Map.Text.{is_eq-slice_cmp}
+use Rattle.std.proofs.lemmas.Slice.Eq.{bytes_eq-Decides}
 use Rattle.std.specs.BTreeMap.{insert_entry}
 use Rattle.std.specs.Cmp.Lexicographic.{same_text}
 use Rattle.std.specs.declared.cmp.Ordering.{Ordering}
 use Rattle.std.specs.declared.cmp.Ordering.TheVariants.{Less, Equal, Greater}
 use Rattle.std.specs.Map.{lookup, set_value}
+use Rattle.std.specs.Option.{option_map_or}
 use Rattle.std.specs.Ordering.{is_eq, match_ordering}
 use Rattle.std.specs.Str.{bytes_eq}
 use Rattle.gv_base.specs.ByteMap.{Bytes, key_cmp, has_bytes}
 use Rattle.gv_base.specs.Order.{byte_cmp}
-use Rattle.gv_cert.specs.Indexes.{numbers_from, numbers_of}
+use Rattle.gv_cert.specs.Indexes.{length_key, numbers_from, numbers_in, numbers_of}
+use Rattle.gv_cert.specs.declared.index.Queries.{Queries}
 use Rattle.gv_cert.specs.Records.{KnownRecord}
 
 has_bytes_eq : (q : List ℕ) (k : Bytes) → has_bytes q k ≡ bytes_eq q k.items
@@ -109,6 +112,41 @@ numbers_kept es fs key numbers were sets q = ap (λ o. unwrap_or o []) (sets q) 
     by : (s : Bool) → bytes_eq q key ≡ s → unwrap_or (if s then Some numbers else lookup (has_bytes q) es) [] ≡ unwrap_or (lookup (has_bytes q) es) []
     by true same = sym were ∙ ap (λ o. unwrap_or o []) (sym (at_key es q key same))
     by false same = refl
+
+-- The queries of a length.
+abbrev pub numbers_among : Option Queries → List ℕ → List ℕ
+numbers_among queries query = option_map_or (λ (qs : Queries). numbers_in qs query) queries []
+
+equal_bytes : (x : List ℕ) → bytes_eq x x ≡ true
+equal_bytes x = (bytes_eq-Decides x x).1 refl
+
+module _ (es fs : List (Bytes × Queries)) (name query : List ℕ) (is : name ≡ length_key query) (queries : Queries) (sets : Sets es fs name queries) where
+  -- a query of another length is another query
+  of_length : (q : List ℕ) → bytes_eq (length_key q) name ≡ false → bytes_eq q query ≡ false
+  of_length q other = by (bytes_eq q query) refl
+    where
+      by : (s : Bool) → bytes_eq q query ≡ s → s ≡ false
+      by true same = absurd (false≢true (sym other ∙ (ap (λ z. bytes_eq (length_key z) name) (same_text q query (sym same)) ∙ (ap (λ z. bytes_eq z name) (sym is) ∙ equal_bytes name))))
+      by false is = refl
+
+  pub length_added : (number : ℕ)
+      → ((q : List ℕ) → numbers_in queries q ≡ (if bytes_eq q query then numbers_among (lookup (has_bytes name) es) q ++ number ∷ [] else numbers_among (lookup (has_bytes name) es) q))
+      → (q : List ℕ) → numbers_among (lookup (has_bytes (length_key q)) fs) q
+        ≡ (if bytes_eq q query then numbers_among (lookup (has_bytes (length_key q)) es) q ++ number ∷ [] else numbers_among (lookup (has_bytes (length_key q)) es) q)
+  length_added number added q = ap (λ o. numbers_among o q) (sets (length_key q)) ∙ by (bytes_eq (length_key q) name) refl
+    where
+      by : (s : Bool) → bytes_eq (length_key q) name ≡ s → numbers_among (if s then Some queries else lookup (has_bytes (length_key q)) es) q
+          ≡ (if bytes_eq q query then numbers_among (lookup (has_bytes (length_key q)) es) q ++ number ∷ [] else numbers_among (lookup (has_bytes (length_key q)) es) q)
+      by true same = added q ∙ ap (λ o. if bytes_eq q query then numbers_among o q ++ number ∷ [] else numbers_among o q) (sym (at_key es (length_key q) name same))
+      by false other = rw (of_length q other) refl
+
+  pub length_kept : ((q : List ℕ) → numbers_in queries q ≡ numbers_among (lookup (has_bytes name) es) q)
+      → (q : List ℕ) → numbers_among (lookup (has_bytes (length_key q)) fs) q ≡ numbers_among (lookup (has_bytes (length_key q)) es) q
+  length_kept kept q = ap (λ o. numbers_among o q) (sets (length_key q)) ∙ by (bytes_eq (length_key q) name) refl
+    where
+      by : (s : Bool) → bytes_eq (length_key q) name ≡ s → numbers_among (if s then Some queries else lookup (has_bytes (length_key q)) es) q ≡ numbers_among (lookup (has_bytes (length_key q)) es) q
+      by true same = kept q ∙ ap (λ o. numbers_among o q) (sym (at_key es (length_key q) name same))
+      by false other = refl
 
 pub on_err : {T E P : Type 0} (r : Result T E) → P → OnErr r P
 on_err (Ok x) p = tt

@@ -1,7 +1,7 @@
 use Rattle.std.proofs.Common.{[], ◌∷◌, ap, sym, ◌∙◌, refl, subst}
 use Rattle.std.specs.Prelude.{unwrap_or}
 use Rattle.gv_cert.proofs.Entries.{new_entry, on_err, number_added, numbers_kept, set_entry, Sets}
-use Rattle.gv_cert.proofs.index.Index.add.Goals as goal
+use Rattle.gv_cert.proofs.index.Queries.add.Goals as goal
 
 pub returns-in_err-add-in-Some-clause-err : goal.returns-in_err-add-in-Some-clause-err
 returns-in_err-add-in-Some-clause-err c =
