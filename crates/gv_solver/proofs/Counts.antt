@@ -66,11 +66,11 @@ all_in : (P : Entry → Type 0) (es : List Entry) (e : Entry) → AllByRecursion
 all_in P [] e a i = absurd i
 all_in P (x ∷ xs) e a i = elim i [ inl q ↦ subst P q a.0 | inr g ↦ all_in P xs e a.1 g ]
 
-all_has : (P : ℕ → Type 0) (xs : List ℕ) (x : ℕ) → AllByRecursion P xs → Has x xs → P x
+pub all_has : (P : ℕ → Type 0) (xs : List ℕ) (x : ℕ) → AllByRecursion P xs → Has x xs → P x
 all_has P [] x a h = absurd h
 all_has P (y ∷ ys) x a h = elim h [ inl q ↦ subst P q a.0 | inr g ↦ all_has P ys x a.1 g ]
 
-has_at : (xs : List ℕ) (n : ℕ) → n < length xs → Has (get_or xs n 0) xs
+pub has_at : (xs : List ℕ) (n : ℕ) → n < length xs → Has (get_or xs n 0) xs
 has_at [] n lt = absurd (omega (arith, lt))
 has_at (x ∷ xs) zero lt = inl refl
 has_at (x ∷ xs) (suc n) lt = inr (has_at xs n (omega (arith, lt)))
@@ -137,7 +137,7 @@ few_entries f s v t is lt =
     omega (arith, h, n, t.variables, is, lt)
 
 -- the level that a look-up gives is the entry's
-same_variable : (a b : ℕ) → a / 2 ≡ b / 2 → (a ≡ b) ⊎ (a ≡ opposite b)
+pub same_variable : (a b : ℕ) → a / 2 ≡ b / 2 → (a ≡ b) ⊎ (a ≡ opposite b)
 same_variable a b e = by (nat_eq (b % 2) 0) refl (nat_eq (a % 2) 0) refl
   where
     even : (r : ℕ) → nat_eq r 0 ≡ true → r ≡ 0

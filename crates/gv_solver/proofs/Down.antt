@@ -59,7 +59,7 @@ rising_more b s t [] le r = omega (arith, le, r)
 rising_more b s t (x ∷ xs) le r = (r.0, rising_more (x + 1) s t xs le r.1)
 
 -- what was decided is off
-decided_off : (on : List Bool) (es : List Entry) (i : ℕ) → (cs : List (List ℕ)) → IsDerived cs on es → IsOrdered on es → Has i (decided es) → is_true (made_true on es) (2 * i + 1) ≡ true
+pub decided_off : (on : List Bool) (es : List Entry) (i : ℕ) → (cs : List (List ℕ)) → IsDerived cs on es → IsOrdered on es → Has i (decided es) → is_true (made_true on es) (2 * i + 1) ≡ true
 decided_off on [] i cs d o h = absurd h
 decided_off on (e ∷ es) i cs d o h = by e.reason refl h (λ g. decided_off (slice_set on e.lit true) es i cs d.1 o.1 g)
   where

@@ -17,7 +17,7 @@ use Rattle.gv_solver.specs.Puts.{Grows, Settles, Rewinds}
 use Rattle.gv_solver.proofs.Core.{below_refl, below_trans, below_set, set_here}
 use Rattle.gv_solver.proofs.Derive.{below_made}
 
-made_cat : (on : List Bool) (es fs : List Entry) → made_true on (es ++ fs) ≡ made_true (made_true on es) fs
+pub made_cat : (on : List Bool) (es fs : List Entry) → made_true on (es ++ fs) ≡ made_true (made_true on es) fs
 made_cat on [] fs = refl
 made_cat on (x ∷ xs) fs = made_cat (slice_set on x.lit true) xs fs
 

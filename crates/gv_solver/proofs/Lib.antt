@@ -11,6 +11,7 @@ pub mod Lessons
 pub mod Points
 pub mod Counts
 pub mod Late
+pub mod Retreat
 pub mod Forced
 pub mod Ends
 pub mod Truth

@@ -2,6 +2,8 @@
 use Rattle.std.specs.Prelude.{◌≡◌, ℕ, ◌+◌, ◌<◌, ◌≤◌, Bool, true, false, List, ◌++◌, length, slice_index_or}
 use Rattle.gv_logic.specs.Formulas.{Formula}
 use Rattle.gv_logic.specs.Kept.{Clashes}
+use Rattle.gv_trail.specs.Entries.{State, assignment}
+use Rattle.gv_solver.specs.Found.{bits_to}
 use Rattle.gv_logic.specs.Logs.{Step, IsValid, step_clauses, HasList, set_clause, least_set}
 
 -- each input that is on clashes with its being off
@@ -20,3 +22,8 @@ pub record IsProved (f : Formula) (names : List (List ℕ)) (bits : List Bool) (
 abbrev pub Proves : Formula → List Bool → ℕ → List Step → List Step → Type 0
 Proves names bits i old log =
     (f : Formula) → f.variables ≡ names.variables → IsValid f old → names.clauses ≡ f.clauses ++ step_clauses old → IsProved f names.clauses bits i old log
+
+-- the bits of a trail, and a log behind another that proves them least
+pub record AreLeastBits (names : Formula) (inputs : ℕ) (s : State) (bits : List Bool) (old log : List Step) : Type 0 where
+  pub are : bits ≡ bits_to (assignment s) inputs
+  pub proves : Proves names bits inputs old log

@@ -1,10 +1,10 @@
 -- One round of the solver: words of private functions.
-use Rattle.std.specs.Prelude.{◌≡◌, ℕ, ◌+◌, ◌<◌, ◌≤◌, List, length}
+use Rattle.std.specs.Prelude.{◌≡◌, ℕ, ◌+◌, ◌<◌, ◌≤◌, List, [], ◌∷◌, ◌++◌, length}
 use Rattle.gv_logic.specs.Formulas.{Formula}
-use Rattle.gv_logic.specs.Logs.{IsValid, ProvesNone}
+use Rattle.gv_logic.specs.Logs.{Step, IsValid, ProvesNone, set_clause}
 use Rattle.gv_logic.specs.Partial.{AllQuiet}
 use Rattle.gv_trail.specs.Entries.{State, assignment}
-use Rattle.gv_solver.specs.Search.{IsSearched, IsAssigned}
+use Rattle.gv_solver.specs.Search.{IsSearched, IsResumed, IsAssigned}
 use Rattle.gv_solver.specs.Work.{IsWork}
 use Rattle.gv_solver.specs.declared.rounds.Work.{Work}
 use Rattle.gv_solver.specs.declared.rounds.Round.{Round}
@@ -22,10 +22,20 @@ pub record IsRefuted (f : Formula) (old new : Work) : Type 0 where
   pub proves : ProvesNone new.log
   pub count : length new.log ≤ length old.log + 2
 
+-- one more set, and the step of its clause is the log's last
+pub record IsLastSet (old new : Work) : Type 0 where
+  pub set : List ℕ
+  pub kept : new.sets ≡ old.sets ++ set ∷ []
+  pub front : List Step
+  pub step : Step
+  pub log : new.log ≡ front ++ step ∷ []
+  pub clause : step.clause ≡ set_clause set
+
 -- one more set, with two steps at most
 pub record IsOneMore (f : Formula) (inputs : ℕ) (old new : Work) : Type 0 where
   pub work : IsWork f inputs new
   pub sets : length new.sets ≡ length old.sets + 1
+  pub last : IsLastSet old new
   pub count : length new.log ≤ length old.log + 2
 
 pub record IsMore (f : Formula) (inputs budget : ℕ) (old new : Work) : Type 0 where
@@ -35,5 +45,12 @@ pub record IsMore (f : Formula) (inputs budget : ℕ) (old new : Work) : Type 0 
 abbrev pub Rounds : Formula → ℕ → ℕ → Work → Work → State → Round → Type 0
 Rounds f inputs budget old new s Model = (new ≡ old) × IsModel new.clauses.clauses inputs s
 Rounds f inputs budget old new s Empty = IsRefuted f old new
-Rounds f inputs budget old new s Kept = IsMore f inputs budget old new
+Rounds f inputs budget old new s (Kept from) = IsMore f inputs budget old new
 Rounds f inputs budget old new s Full = (new ≡ old) × (budget ≤ length new.sets)
+
+-- behind a kept set the way down goes on
+abbrev pub Resumes : List (List ℕ) → ℕ → State → Round → Type 0
+Resumes cs inputs s Model = Unit {0}
+Resumes cs inputs s Empty = Unit {0}
+Resumes cs inputs s (Kept from) = (from ≤ inputs) × IsResumed cs from s
+Resumes cs inputs s Full = Unit {0}

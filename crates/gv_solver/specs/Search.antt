@@ -1,13 +1,13 @@
 -- What holds on the way down, with the least undecided input decided at each level: words of private functions.
-use Rattle.std.specs.Prelude.{◌≡◌, ◌⊎◌, ℕ, ◌+◌, ◌*◌, ◌/◌, ◌<◌, ◌≤◌, ◌^◌, Bool, true, false, Some, None, List, [], ◌∷◌, slice_get, slice_set, replicate}
+use Rattle.std.specs.Prelude.{◌≡◌, ◌⊎◌, ℕ, ◌+◌, ◌*◌, ◌/◌, ◌<◌, ◌≤◌, ◌^◌, Bool, true, false, Some, None, List, [], ◌∷◌, ◌++◌, slice_get, slice_set, replicate}
 use Rattle.gv_logic.specs.Formulas.{Formula}
 use Rattle.gv_logic.specs.Kept.{IsWithin, IsRising}
 use Rattle.gv_logic.specs.Logs.{set_clause}
 use Rattle.gv_logic.specs.Literals.{opposite}
-use Rattle.gv_logic.specs.Partial.{is_true, Has, AllQuiet}
+use Rattle.gv_logic.specs.Partial.{is_true, all_false, Has, AllQuiet}
 use Rattle.gv_trail.specs.declared.propagation.Propagation.{Propagation}
 use Rattle.gv_trail.specs.declared.propagation.Propagation.TheVariants.{Fixed, Conflict}
-use Rattle.gv_trail.specs.Entries.{Entry, State, assignment}
+use Rattle.gv_trail.specs.Entries.{Entry, State, assignment, made_true, front_to}
 use Rattle.gv_trail.specs.Derived.{IsTrail}
 use Rattle.gv_trail.specs.Told.{IsFalseAt}
 use Rattle.gv_trail.specs.Watching.{IsIn}
@@ -58,10 +58,38 @@ pub record IsLate (s : State) (clause : List ℕ) : Type 0 where
 abbrev pub IsLateAt : List (List ℕ) → State → ℕ → Type 0
 IsLateAt cs s k = (c : List ℕ) → slice_get cs k ≡ Some c → IsLate s c
 
--- a clause that is false became so at the present level
-abbrev pub TellsLate : List (List ℕ) → State → Propagation → Type 0
-TellsLate cs s Fixed = Unit {0}
-TellsLate cs s (Conflict k) = 0 < s.level → IsLateAt cs s k
+-- no clause is false
+abbrev pub NoneFalse : List (List ℕ) → List Bool → Type 0
+NoneFalse cs on = (k : ℕ) (c : List ℕ) → slice_get cs k ≡ Some c → all_false on c ≡ false
+
+-- what was assigned at the present level began where no clause was false
+pub record Began (cs : List (List ℕ)) (s : State) : Type 0 where
+  pub before : List Entry
+  pub more : List Entry
+  pub entries : s.entries ≡ before ++ more
+  pub here : (e : Entry) → IsIn e more → e.level ≡ s.level
+  pub open_ : NoneFalse cs (made_true (replicate (2 * s.variables) false) before)
+
+abbrev pub TellsBegan : List (List ℕ) → State → Propagation → Type 0
+TellsBegan cs s Fixed = Unit {0}
+TellsBegan cs s (Conflict k) = 0 < s.level → Began cs s
+
+-- where a way down goes on: the inputs below i are assigned, and a decision falsified no clause
+pub record IsResumed (cs : List (List ℕ)) (i : ℕ) (s : State) : Type 0 where
+  pub search : IsSearch cs i s
+  pub open_ : 0 < s.level → NoneFalse cs (assignment s)
+
+-- what is assigned is the same
+pub record IsSameWay (old new : State) : Type 0 where
+  pub variables : new.variables ≡ old.variables
+  pub entries : new.entries ≡ old.entries
+
+-- the decision of an input and all behind it are gone
+pub record TakesBack (cs : List (List ℕ)) (i : ℕ) (old new : State) : Type 0 where
+  pub search : IsSearch cs i new
+  pub below : new.level < old.level
+  pub entries : new.entries ≡ front_to new.level old.entries
+  pub free : is_true (assignment new) (2 * i + 1) ≡ false
 
 abbrev pub Arrives : List (List ℕ) → ℕ → State → Propagation → Type 0
 Arrives cs inputs s Fixed = AllQuiet (assignment s) cs × ((j : ℕ) → j < inputs → IsAssigned (assignment s) j)

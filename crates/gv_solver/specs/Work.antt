@@ -1,9 +1,10 @@
 -- What a solver has learned: words of private functions.
-use Rattle.std.specs.Prelude.{◌≡◌, ℕ, ◌+◌, ◌*◌, ◌<◌, ◌≤◌, true, List, [], ◌∷◌, ◌++◌, length}
+use Rattle.std.specs.Prelude.{◌≡◌, ℕ, ◌+◌, ◌*◌, ◌<◌, ◌≤◌, Bool, true, false, List, [], ◌∷◌, ◌++◌, length}
 use Rattle.std.specs.List.{AllByRecursion}
 use Rattle.gv_logic.specs.Formulas.{Formula}
 use Rattle.gv_logic.specs.Kept.{IsWithin, IsTight, IsRising, Clashes, set_clauses}
 use Rattle.gv_logic.specs.Logs.{Step, IsValid, HasList, follows, step_clauses, set_clause}
+use Rattle.gv_logic.specs.Partial.{all_false}
 use Rattle.gv_solver.specs.Search.{AreFree}
 use Rattle.gv_solver.specs.declared.rounds.Work.{Work}
 
@@ -36,6 +37,10 @@ pub record IsFoundSet (f : Formula) (inputs : ℕ) (set : List ℕ) : Type 0 whe
 -- a step that follows
 abbrev pub Lesson : Formula → Step → Type 0
 Lesson f step = follows (2 * f.variables) f.clauses step.clause step.hints ≡ true
+
+-- the step's clause isn't false
+abbrev pub IsOpenStep : List Bool → Step → Type 0
+IsOpenStep on step = all_false on step.clause ≡ false
 
 pub record TakesStep (old : Work) (step : Step) (after : Work) : Type 0 where
   pub clauses : after.clauses ≡ record { variables = old.clauses.variables; clauses = old.clauses.clauses ++ step.clause ∷ [] }

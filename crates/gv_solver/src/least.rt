@@ -5,7 +5,8 @@ ghost use Rattle.std.specs.Prelude.{◌≡◌, ◌<◌, ◌≤◌, ◌^◌, IfOk
 ghost use Rattle.gv_logic.specs.Logs.{offs, least_set};
 ghost use Rattle.gv_trail.specs.Entries.{assignment};
 ghost use Rattle.gv_solver.specs.Found.{bits_to};
-ghost use Rattle.gv_solver.specs.Proving.{AreOnByForce, Proves};
+ghost use Rattle.gv_solver.specs.Proving.{AreOnByForce, Proves, AreLeastBits};
+ghost use Rattle.gv_solver.specs.Rounds.{IsModel};
 ghost use Rattle.gv_solver.specs.Search.{Ready};
 
 use crate::probing::refute;
@@ -15,8 +16,8 @@ use gv_refute::Log;
 use gv_trail::Trail;
 use std::alloc::Global;
 
-/// The bits of the inputs.
-pub(crate) fn bits_of(alloc: Global, trail: &Trail, inputs: u32) -> Result<Bits, NoMemory>
+// The bits of the inputs.
+fn bits_of(alloc: Global, trail: &Trail, inputs: u32) -> Result<Bits, NoMemory>
     requires { inputs ≤ 2 ^ 30 }
     ensures { IfOk result (λ bits. bits ≡ bits_to (assignment trail.now) inputs) }
 {
@@ -51,8 +52,8 @@ fn least_of(alloc: Global, bits: &[bool], input: u32) -> Result<Vec<u32>, NoMemo
     Ok(set)
 }
 
-/// Adds for each input that is on the step that it is so in the least bits.
-pub(crate) fn prove_least(
+// Adds for each input that is on the step that it is so in the least bits.
+fn prove_least(
     alloc: Global,
     trail: &mut Trail,
     clauses: &Clauses,
@@ -74,4 +75,22 @@ pub(crate) fn prove_least(
         log.add(step)?;
     }
     Ok(())
+}
+
+/// The bits of a trail that leaves no clause false or unit. They are the least, and the steps that
+/// prove it are added to the log.
+pub(crate) fn least_bits(
+    alloc: Global,
+    trail: &mut Trail,
+    clauses: &Clauses,
+    log: &mut Log,
+    inputs: u32,
+) -> Result<Bits, NoMemory>
+    requires ready { Ready clauses.now inputs trail.old }
+    requires model { IsModel clauses.now.clauses inputs trail.old }
+    ensures { IfOk result (λ bits. AreLeastBits clauses.now inputs trail.old bits log.old log.new) }
+{
+    let bits = bits_of(alloc, trail, inputs)?;
+    prove_least(alloc, trail, clauses, log, bits.items(), inputs)?;
+    Ok(bits)
 }

@@ -1,5 +1,5 @@
 -- What the steps of a propagation do: words of private functions.
-use Rattle.std.specs.Prelude.{◌≡◌, ℕ, ◌+◌, ◌<◌, Bool, true, false, if◌then◌else◌, nat_eq, Option, Some, None, List, [], ◌∷◌, ◌++◌, length, slice_get, slice_index_or}
+use Rattle.std.specs.Prelude.{◌≡◌, ℕ, ◌+◌, ◌<◌, Bool, true, false, if◌then◌else◌, nat_eq, min, Option, Some, None, List, [], ◌∷◌, ◌++◌, length, slice_get, slice_index_or}
 use Rattle.std.specs.List.{AllByRecursion}
 use Rattle.gv_logic.specs.Literals.{opposite}
 use Rattle.gv_logic.specs.Formulas.{Formula}
@@ -8,7 +8,8 @@ use Rattle.gv_trail.specs.declared.look.Picked.{Picked}
 use Rattle.gv_trail.specs.declared.propagation.Sweep.{Sweep}
 use Rattle.gv_trail.specs.declared.propagation.Sweep.TheVariants.{Nothing, Falsified, Assigned}
 use Rattle.gv_trail.specs.Links.{Links, Watched, list_of, added, idle, requeued}
-use Rattle.gv_trail.specs.Entries.{Entry, State, assignment}
+use Rattle.gv_trail.specs.Looks.{open_to}
+use Rattle.gv_trail.specs.Entries.{Entry, State, assignment, lits_of}
 use Rattle.gv_trail.specs.Derived.{IsTrail, front}
 use Rattle.gv_trail.specs.Told.{Propagates, IsFalseAt}
 use Rattle.gv_trail.specs.Watching.{lit_at}
@@ -19,12 +20,13 @@ rewatched s w = record { variables = s.variables; entries = s.entries; level = s
 abbrev pub relinked : State → Links → State
 relinked s links = rewatched s (record { links = links; apart = s.watched.apart; seen = s.watched.seen; sure = s.watched.sure })
 
-abbrev pub kept_if : Bool → ℕ → ℕ
-kept_if free n = if free then n else 0
+-- how many entries stand before the first that makes one of the two literals false
+abbrev pub open_both : State → Picked → ℕ
+open_both s p = min (open_to p.first (lits_of s.entries)) (open_to p.second (lits_of s.entries))
 
 -- two more watches; what makes one of their literals false has to be followed again
 abbrev pub watching : State → Picked → State
-watching s p = rewatched s (record { links = added (added s.watched.links p.first) p.second; apart = s.watched.apart; seen = kept_if p.free s.watched.seen; sure = kept_if p.free s.watched.sure })
+watching s p = rewatched s (record { links = added (added s.watched.links p.first) p.second; apart = s.watched.apart; seen = min s.watched.seen (open_both s p); sure = min s.watched.sure (open_both s p) })
 
 -- one more clause without watches
 abbrev pub holding_apart : State → ℕ → State

@@ -1,5 +1,5 @@
 -- What a look at one clause finds: words of private functions.
-use Rattle.std.specs.Prelude.{◌≡◌, ℕ, nat_eq, Bool, true, false, if◌then◌else◌, Option, Some, None, List, [], ◌∷◌}
+use Rattle.std.specs.Prelude.{◌≡◌, ℕ, ◌+◌, nat_eq, Bool, if◌then◌else◌, Option, Some, None, List, [], ◌∷◌}
 use Rattle.gv_logic.specs.Literals.{opposite}
 use Rattle.gv_logic.specs.Partial.{is_true, is_other, Has}
 use Rattle.gv_trail.specs.declared.look.Look.{Look}
@@ -27,15 +27,18 @@ open_other on but (lit ∷ lits) =
     else if is_true on (opposite lit) then open_other on but lits
     else Some lit
 
--- the first literal but this one
-abbrev pub other_than : ℕ → List ℕ → Option ℕ
-other_than but [] = None
-other_than but (lit ∷ lits) = if nat_eq lit but then other_than but lits else Some lit
+-- a literal that isn't this one
+pub record IsOther (but : ℕ) (lits : List ℕ) (l : ℕ) : Type 0 where
+  pub has : Has l lits
+  pub differ : l ≡ but → ⊥
 
--- two literals of a clause that differ; where they are `free`, neither is false
-pub record IsPicked (on : List Bool) (lits : List ℕ) (p : Picked) : Type 0 where
+-- two literals of a clause that differ
+pub record IsPicked (lits : List ℕ) (p : Picked) : Type 0 where
   pub first : Has p.first lits
   pub second : Has p.second lits
   pub differ : p.first ≡ p.second → ⊥
-  pub first_free : p.free ≡ true → is_true on (opposite p.first) ≡ false
-  pub second_free : p.free ≡ true → is_true on (opposite p.second) ≡ false
+
+-- how many of the literals that are true stand before the one that makes this one false
+abbrev pub open_to : ℕ → List ℕ → ℕ
+open_to lit [] = 0
+open_to lit (x ∷ xs) = if nat_eq x (opposite lit) then 0 else open_to lit xs + 1

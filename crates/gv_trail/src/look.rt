@@ -2,8 +2,9 @@
 
 ghost use Rattle.std.specs.Prelude.{◌≡◌, None, IfSome};
 ghost use Rattle.gv_logic.specs.Partial.{Has};
-ghost use Rattle.gv_trail.specs.Looks.{look_after, open_other, other_than, IsPicked};
+ghost use Rattle.gv_trail.specs.Looks.{look_after, open_other, IsOther, IsPicked};
 
+use crate::cause::{Cause, cause_of};
 use gv_logic::{Lit, is_on};
 
 /// What stands in the way of a clause's being neither false nor unit.
@@ -52,61 +53,68 @@ pub(crate) fn find_open(on: &[bool], but: Lit, lits: &[Lit]) -> Option<Lit>
     None
 }
 
-// The first of the literals, but for one.
-fn find_other(but: Lit, lits: &[Lit]) -> Option<Lit>
-    ensures { result ≡ other_than but lits.now }
+// The one of the literals, but for one, that was assigned at the highest level.
+fn find_latest(causes: &[Cause], but: Lit, lits: &[Lit]) -> Option<Lit>
+    ensures { IfSome result (IsOther but lits.now) }
 {
+    let mut latest: Option<Lit> = None;
+    let mut top = 0;
     for lit in lits {
-        if *lit != but {
-            return Some(*lit);
+        if *lit == but {
+            continue;
         }
+        let level = cause_of(causes, *lit).level;
+        if level < top {
+            continue;
+        }
+        top = level;
+        latest = Some(*lit);
     }
-    None
+    latest
 }
 
-/// Two literals that differ; where they are free, neither is false.
+/// Two literals that differ.
 #[derive(Clone, Copy, Drop)]
 pub(crate) struct Picked {
     pub(crate) first: Lit,
     pub(crate) second: Lit,
-    pub(crate) free: bool,
+}
+
+// A literal, and the latest of the others.
+fn pick_latest(causes: &[Cause], lits: &[Lit], first: Lit) -> Option<Picked>
+    requires { Has first lits.now }
+    ensures { IfSome result (IsPicked lits.now) }
+{
+    match find_latest(causes, first, lits) {
+        Some(second) => Some(Picked { first, second }),
+        None => None,
+    }
 }
 
 // The literals to watch, the one that is found first being one of them.
-fn pick_beside(on: &[bool], lits: &[Lit], first: Lit) -> Option<Picked>
+fn pick_beside(on: &[bool], causes: &[Cause], lits: &[Lit], first: Lit) -> Option<Picked>
     requires { Has first lits.now }
-    ensures { IfSome result (IsPicked on.now lits.now) }
+    ensures { IfSome result (IsPicked lits.now) }
 {
     match find_open(on, first, lits) {
         Some(open) => match find_open(on, open, lits) {
             Some(second) => Some(Picked {
                 first: open,
                 second,
-                free: true,
             }),
-            None => Some(Picked {
-                first: open,
-                second: first,
-                free: false,
-            }),
+            None => pick_latest(causes, lits, open),
         },
-        None => match find_other(first, lits) {
-            Some(second) => Some(Picked {
-                first,
-                second,
-                free: false,
-            }),
-            None => None,
-        },
+        None => pick_latest(causes, lits, first),
     }
 }
 
-/// Two literals to watch, those that aren't false first; none where no two differ.
-pub(crate) fn pick(on: &[bool], lits: &[Lit]) -> Option<Picked>
-    ensures { IfSome result (IsPicked on.now lits.now) }
+/// Two literals to watch, those that aren't false first, then those that became so at the highest
+/// level; none where no two differ.
+pub(crate) fn pick(on: &[bool], causes: &[Cause], lits: &[Lit]) -> Option<Picked>
+    ensures { IfSome result (IsPicked lits.now) }
 {
     if lits.is_empty() {
         return None;
     }
-    pick_beside(on, lits, lits[0])
+    pick_beside(on, causes, lits, lits[0])
 }

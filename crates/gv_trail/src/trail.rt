@@ -1,16 +1,16 @@
 //! The trail itself.
 
-ghost use Rattle.std.specs.Prelude.{◌≡◌, ◌+◌, ◌*◌, ◌<◌, ◌≤◌, ◌^◌, ◌++◌, ◌∷◌, [], true, false, None, length, IsTrue, ◌↔◌, IfOk, OnOk, OnErr, Option};
+ghost use Rattle.std.specs.Prelude.{◌≡◌, ℕ, ◌+◌, ◌*◌, ◌<◌, ◌≤◌, ◌^◌, ◌++◌, ◌∷◌, [], true, false, None, length, IsTrue, ◌↔◌, IfOk, OnOk, OnErr, Option};
 ghost use Rattle.gv_logic.specs.Literals.{opposite};
 ghost use Rattle.gv_logic.specs.Formulas.{Formula, InRange};
 ghost use Rattle.gv_logic.specs.Partial.{is_true};
 ghost use Rattle.gv_trail.specs.Entries.{assignment, lits_of, reason_of, level_of, value_of, front_to, level_after};
 ghost use Rattle.gv_trail.specs.Derived.{IsTrail, front};
 ghost use Rattle.gv_trail.specs.Links.{IsLinked, requeued, taken};
-ghost use Rattle.gv_trail.specs.Looks.{open_other};
+ghost use Rattle.gv_trail.specs.Looks.{open_other, open_to};
 ghost use Rattle.gv_trail.specs.Told.{Tells, Propagates};
 ghost use Rattle.gv_trail.specs.Watching.{lit_at};
-ghost use Rattle.gv_trail.specs.Follows.{relinked, watching, holding_apart, advanced, sure_after, entry_at, kept_if, Waits, Holds, Looks, Forces, Drains, Follows, Goes, Settles, Sweeps};
+ghost use Rattle.gv_trail.specs.Follows.{relinked, watching, holding_apart, advanced, sure_after, entry_at, Waits, Holds, Looks, Forces, Drains, Follows, Goes, Settles, Sweeps};
 
 use crate::Propagation;
 use crate::cause::{Cause, cause_of, take_back};
@@ -61,7 +61,8 @@ impl Trail {
         ensures level { IfOk result (λ trail. trail.level ≡ 0) }
         ensures over { IfOk result (IsTrail clauses.now) }
     {
-        let mut trail = Trail::empty(alloc, clauses.variables())?;
+        let room = clauses.items().len().saturating_mul(2);
+        let mut trail = Trail::empty(alloc, clauses.variables(), room)?;
         let count = clauses.items().len() as u32;
         for number in 0..count {
             trail.hold(clauses, number)?;
@@ -183,8 +184,8 @@ impl Trail {
 
 // How the clauses that are watched are followed.
 impl Trail {
-    // A trail over no clauses.
-    fn empty(alloc: Global, variables: u32) -> Result<Trail, NoMemory>
+    // A trail over no clauses, with room for so many watches.
+    fn empty(alloc: Global, variables: u32, room: usize) -> Result<Trail, NoMemory>
         ensures variables { IfOk result (λ trail. trail.variables ≡ variables) }
         ensures entries { IfOk result (λ trail. trail.entries ≡ []) }
         ensures level { IfOk result (λ trail. trail.level ≡ 0) }
@@ -201,7 +202,7 @@ impl Trail {
         let on = vec![in alloc; false; 2 * variables]?;
         let causes = vec![in alloc; cause; variables]?;
         let lits = Vec::with_capacity(alloc, 2 * variables)?;
-        let watches = Watches::new(alloc, 2 * variables)?;
+        let watches = Watches::new(alloc, 2 * variables, room)?;
         Ok(Trail {
             on,
             lits,
@@ -225,7 +226,7 @@ impl Trail {
             return Err(NoMemory);
         }
         let items = clauses.items();
-        match pick(&self.on, items[number as usize].items()) {
+        match pick(&self.on, &self.causes, items[number as usize].items()) {
             Some(picked) => self.watch(picked),
             None => self.keep_apart(number),
         }
@@ -241,9 +242,17 @@ impl Trail {
         ensures err { OnErr result (self.new ≡ self.old) }
     {
         self.watches.add_both(picked.first, picked.second)?;
-        self.seen = kept_if(picked.free, self.seen);
-        self.sure = kept_if(picked.free, self.sure);
+        let from = self.open_to(picked.first).min(self.open_to(picked.second));
+        self.seen = self.seen.min(from);
+        self.sure = self.sure.min(from);
         Ok(())
+    }
+
+    // How many literals stand before the one that makes this one false.
+    fn open_to(&self, lit: Lit) -> usize
+        ensures { result ≡ open_to lit (lits_of self.now.entries) }
+    {
+        open_to(&self.lits, lit.opposite())
     }
 
     // The next clause is held apart.
@@ -500,8 +509,14 @@ impl Trail {
     }
 }
 
-fn kept_if(free: bool, count: usize) -> usize
-    ensures { result ≡ kept_if free count }
+// How many literals stand before this one.
+fn open_to(lits: &[Lit], against: Lit) -> usize
+    ensures { (lit : ℕ) → opposite lit ≡ against → result ≡ open_to lit lits.now }
 {
-    if free { count } else { 0 }
+    for (at, lit) in lits.iter().enumerate() {
+        if *lit == against {
+            return at;
+        }
+    }
+    lits.len()
 }

@@ -2,7 +2,7 @@ use Rattle.std.proofs.Common.{◌+◌, ◌*◌, ◌<◌, sym, arith}
 use Rattle.gv_trail.specs.Entries.{assignment}
 use Rattle.gv_solver.proofs.Down.{search_decide, search_settle, search_skip, ready_same}
 use Rattle.gv_solver.proofs.Grow.{puts_one}
-use Rattle.gv_solver.proofs.Late.{late_settled}
+use Rattle.gv_solver.proofs.Late.{began_decided}
 use Rattle.gv_solver.proofs.Looks.{look_assigned, look_free}
 use Rattle.gv_solver.proofs.search.step_down.Goals as goal
 
@@ -22,5 +22,5 @@ returns-in-None-clause-search c =
     (search_decide c.args.clauses.now c.args.input c.args.trail.now c.decide.new.self c.requires.search c.requires.ready.over c.requires.quiet free.0 free.1 c.decide.ensures.variables c.decide.ensures.entries one.0 one.1)
     c.settle.ensures
 
-pub returns-in-None-clause-late : goal.returns-in-None-clause-late
-returns-in-None-clause-late c = late_settled c.args.clauses.now c.args.trail.now c.decide.new.self c.settle.new.trail c.settle.result (2 * c.args.input + 1) c.requires.quiet c.decide.ensures.variables c.decide.ensures.entries c.decide.ensures.level c.settle.ensures
+pub returns-in-None-clause-began : goal.returns-in-None-clause-began
+returns-in-None-clause-began c = began_decided c.args.clauses.now c.args.trail.now c.decide.new.self c.settle.new.trail c.settle.result (2 * c.args.input + 1) c.requires.quiet c.decide.ensures.variables c.decide.ensures.entries c.decide.ensures.level c.settle.ensures
