@@ -1,5 +1,5 @@
 -- The selected reports that need no query, as they are found.
-use Rattle.std.proofs.Common.{◌≡◌, ℕ, Bool, true, false, ◌&&◌, ◌||◌, if◌then◌else◌, List, [], ◌∷◌, ◌++◌, map, filter, refl, sym, ap, ◌∙◌, Option, Some, None}
+use Rattle.std.proofs.Common.{◌≡◌, ℕ, ◌+◌, Bool, true, false, ◌&&◌, ◌||◌, if◌then◌else◌, cond, List, [], ◌∷◌, ◌++◌, length, map, filter, refl, sym, ap, ◌∙◌, Option, Some, None, append_assoc, length-append, arith}
 use Rattle.std.specs.Prelude.{flat_map, slice_get}
 use Rattle.std.specs.List.{list_any}
 use Rattle.std.specs.Option.{option_map_or}
@@ -10,7 +10,7 @@ use Rattle.gv_base.specs.Order.{has_text}
 use Rattle.gv_atom.specs.declared.atom.Atom.{Atom}
 use Rattle.gv_entry.specs.declared.entry.Body.{Body}
 use Rattle.gv_facts.specs.Effective.{expand_flags, is_effective, unprefixed_flags}
-use Rattle.gv_facts.specs.Places.{is_pkg_of}
+use Rattle.gv_facts.specs.Places.{is_pkg_of, places_from, places_of}
 use Rattle.gv_facts.specs.Visible.{matches_pkg}
 use Rattle.gv_facts.specs.declared.kinds.Class.{Class}
 use Rattle.gv_facts.specs.declared.pkg.Pkg.{Pkg}
@@ -26,6 +26,30 @@ use Rattle.gv_checks.specs.Queries.{is_told}
 use Rattle.gv_checks.specs.RepoReports.{case_plain, is_unstated, live_in, member_plain, mentioned_in, nonexistent, nonexistent_in, plain_reports, readable_classes, unstated, unstated_in}
 use Rattle.gv_load.specs.declared.loading.Repo.{Repo}
 use Rattle.gv_checks.specs.declared.unstated.OtherFlags.{OtherFlags}
+
+-- What stands at the places of the items that pass a test.
+module _ {X : Type 0} (test : X → Bool) where
+  at_length : (front : List X) (x : X) (xs : List X) → slice_get (front ++ x ∷ xs) (length front) ≡ Some x
+  at_length [] x xs = refl
+  at_length (y ∷ front) x xs = at_length front x xs
+
+  items_from : (front xs : List X) → map (slice_get (front ++ xs)) (places_from (length front) test xs) ≡ map Some (filter test xs)
+  items_from front [] = refl
+  items_from front (x ∷ xs) = by (test x) (at_length front x xs) (shifted (items_from (front ++ x ∷ []) xs))
+    where
+      shifted : map (slice_get ((front ++ x ∷ []) ++ xs)) (places_from (length (front ++ x ∷ [])) test xs) ≡ map Some (filter test xs)
+          → map (slice_get (front ++ x ∷ xs)) (places_from (length front + 1) test xs) ≡ map Some (filter test xs)
+      shifted h =
+          let whole : (front ++ x ∷ []) ++ xs ≡ front ++ x ∷ xs = append_assoc front (x ∷ []) xs in
+          let one_more : length (front ++ x ∷ []) ≡ length front + 1 = omega (arith, length-append front (x ∷ [])) in
+          rw (whole, one_more) at h
+
+      by : (b : Bool) → slice_get (front ++ x ∷ xs) (length front) ≡ Some x
+          → map (slice_get (front ++ x ∷ xs)) (places_from (length front + 1) test xs) ≡ map Some (filter test xs)
+          → map (slice_get (front ++ x ∷ xs)) (if b then length front ∷ places_from (length front + 1) test xs else places_from (length front + 1) test xs)
+          ≡ map Some (cond b (x ∷ filter test xs) (filter test xs))
+      by true here h = rw (here, h) refl
+      by false here h = h
 
 -- Atoms: what matches has the category and name.
 front_two : (a b c : Bool) → (a && (b && c)) ≡ true → (a && b) ≡ true
@@ -46,7 +70,7 @@ any_among test other only (x ∷ xs) = by (other x) refl (test x) refl (any_amon
     by false e true f rest = absurd (false≢true (sym e ∙ only x f))
     by false e false f rest = rw (e, f) rest
 
-pub at_places : (atom : Atom) (pkgs : List Pkg) (places : List ℕ) → map (slice_get pkgs) places ≡ map Some (filter (is_pkg_of atom.category atom.name) pkgs)
+at_places : (atom : Atom) (pkgs : List Pkg) (places : List ℕ) → map (slice_get pkgs) places ≡ map Some (filter (is_pkg_of atom.category atom.name) pkgs)
     → list_any (matches_at atom pkgs) places ≡ list_any (matches_pkg atom) pkgs
 at_places atom pkgs places items =
     sym (any_map found (slice_get pkgs) places)
@@ -59,6 +83,9 @@ at_places atom pkgs places items =
 
     of_name : (p : Pkg) → matches_pkg atom p ≡ true → is_pkg_of atom.category atom.name p ≡ true
     of_name p = front_two (bytes_eq atom.category p.category) (bytes_eq atom.name p.name) _
+
+pub at_named : (atom : Atom) (pkgs : List Pkg) → list_any (matches_at atom pkgs) (places_of (is_pkg_of atom.category atom.name) pkgs) ≡ list_any (matches_pkg atom) pkgs
+at_named atom pkgs = at_places atom pkgs (places_of (is_pkg_of atom.category atom.name) pkgs) (items_from (is_pkg_of atom.category atom.name) [] pkgs)
 
 -- Flags of IUSE are effective.
 any_front : {A : Type 0} (test : A → Bool) (xs ys : List A) → list_any test xs ≡ true → list_any test (xs ++ ys) ≡ true

@@ -1,6 +1,7 @@
 -- Profiles as they are seen, one by one.
 use Rattle.std.proofs.Common.{◌≡◌, ℕ, ◌+◌, ◌<◌, ◌≤◌, List, ◌++◌, length, map, get_or, drop, refl, sym, ap, ◌∙◌, Option, None, Some, append_assoc, append-nil}
 use Rattle.std.proofs.Math.ListN.{drop_of_length-le}
+use Rattle.std.proofs.lemmas.Option.{slice_get-get_or}
 use Rattle.std.specs.Prelude.{flat_map, filter_map, OnOk, Result, option_map}
 use Rattle.std.specs.List.{cons_option}
 use Rattle.gv_facts.specs.declared.kinds.Level.{Level}
@@ -9,16 +10,21 @@ use Rattle.gv_facts.specs.declared.profile.Profile.{Profile}
 use Rattle.gv_facts.specs.Visible.{judged}
 use Rattle.gv_report.specs.declared.options.Options.{Options}
 use Rattle.gv_report.specs.declared.report.Report.{Report}
+use Rattle.gv_usestate.specs.Kinds.{IsOneOf}
 use Rattle.gv_visible.specs.Told.{VisiblePkgs}
 use Rattle.gv_checks.specs.Cases.{Case, Member, case_at, case_in}
 use Rattle.gv_checks.specs.Plain.{told_case, told_in}
 use Rattle.gv_checks.specs.Walks.{seen}
 use Rattle.gv_checks.proofs.SharedLemmas.{on_ok}
-use Rattle.gv_checks.proofs.WalkLemmas.{all_seen, drop_here, seen_at}
+use Rattle.gv_checks.proofs.WalkLemmas.{IsSeenAt, all_seen, drop_here, seen_at}
 use Rattle.gv_load.specs.declared.loading.Repo.{Repo}
 
 pub as_seen : (pkgs : List Pkg) (profile : Profile) (x : VisiblePkgs) → x.pkgs ≡ pkgs → profile ≡ x.profile → x ≡ seen pkgs profile
 as_seen pkgs profile x p q = rw (sym p, q) refl
+
+-- its profile is one of them
+pub one_of : (pkgs : List Pkg) (profiles : List Profile) (i : ℕ) (x : VisiblePkgs) → IsSeenAt pkgs profiles i x → (profile : Profile) → profile ≡ x.profile → IsOneOf profiles profile
+one_of pkgs profiles i x at profile same = record { place = i; there = slice_get-get_or profiles i x.profile at.lt ∙ (ap Some (sym at.here) ∙ ap Some (sym same)) }
 
 -- what a profile tells of a package
 pub unjudged_told : (o : Options) (pkgs : List Pkg) (m : Member) (x : VisiblePkgs) (now : List Report) → judged m.pkg x.profile ≡ None → now ≡ now ++ told_in o (case_in pkgs m x.profile)

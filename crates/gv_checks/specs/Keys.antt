@@ -2,28 +2,34 @@
 use Rattle.std.specs.Prelude.{◌≡◌, ℕ, List, [], Option, None, option_map, unwrap_or}
 use Rattle.gv_entry.specs.declared.entry.Body.{Body}
 use Rattle.gv_expr.specs.Dep.{Dep}
+use Rattle.gv_expr.specs.Req.{Req}
 use Rattle.gv_facts.specs.declared.kinds.Class.{Class}
 use Rattle.gv_facts.specs.declared.kinds.Class.TheVariants.{Required, Depend, Bdepend, Rdepend, Pdepend, Idepend}
 use Rattle.gv_facts.specs.declared.pkg.Pkg.{Pkg}
+use Rattle.gv_facts.specs.declared.profile.Profile.{Profile}
 use Rattle.gv_lower.specs.Keys.{required_key}
-use Rattle.gv_lower.specs.Sites.{ClassSites}
+use Rattle.gv_lower.specs.Sites.{ClassSites, RequiredFlags}
+use Rattle.gv_usestate.specs.Kinds.{IsOneOf}
 use Rattle.gv_visible.specs.Told.{VisiblePkgs}
 use Rattle.gv_checks.specs.Judged.{case_of}
 use Rattle.gv_checks.specs.Walks.{seen}
 use Rattle.gv_checks.specs.declared.judged.JudgedPkg.{JudgedPkg}
 use Rattle.gv_checks.specs.declared.keys.PkgSites.{PkgSites}
 
-abbrev pub sites_in : List Pkg → List Dep → ClassSites
-sites_in pkgs class = record { pkgs = pkgs; class = class }
+abbrev pub flags_in : List Profile → Pkg → List Req → RequiredFlags
+flags_in profiles p required = record { profiles = profiles; of = p; required = required }
+
+abbrev pub sites_in : List Profile → Pkg → List Pkg → List Dep → ClassSites
+sites_in profiles p pkgs class = record { profiles = profiles; of = p; pkgs = pkgs; class = class }
 
 -- those of each class that isn't broken
-pub record AreSitesOf (pkgs : List Pkg) (body : Body) (s : PkgSites) : Type 0 where
-  pub required : s.required ≡ body.required
-  pub depend : s.depend ≡ option_map (sites_in pkgs) body.depend
-  pub bdepend : s.bdepend ≡ option_map (sites_in pkgs) body.bdepend
-  pub rdepend : s.rdepend ≡ option_map (sites_in pkgs) body.rdepend
-  pub pdepend : s.pdepend ≡ option_map (sites_in pkgs) body.pdepend
-  pub idepend : s.idepend ≡ option_map (sites_in pkgs) body.idepend
+pub record AreSitesOf (profiles : List Profile) (p : Pkg) (pkgs : List Pkg) (body : Body) (s : PkgSites) : Type 0 where
+  pub required : s.required ≡ option_map (flags_in profiles p) body.required
+  pub depend : s.depend ≡ option_map (sites_in profiles p pkgs) body.depend
+  pub bdepend : s.bdepend ≡ option_map (sites_in profiles p pkgs) body.bdepend
+  pub rdepend : s.rdepend ≡ option_map (sites_in profiles p pkgs) body.rdepend
+  pub pdepend : s.pdepend ≡ option_map (sites_in profiles p pkgs) body.pdepend
+  pub idepend : s.idepend ≡ option_map (sites_in profiles p pkgs) body.idepend
 
 abbrev pub sites_at : PkgSites → Class → Option ClassSites
 sites_at s Required = None
@@ -33,8 +39,14 @@ sites_at s Rdepend = s.rdepend
 sites_at s Pdepend = s.pdepend
 sites_at s Idepend = s.idepend
 
+-- the sites of the package of a context, whose profile is one of those of the sites
+pub record HasSites (j : JudgedPkg) (s : PkgSites) : Type 0 where
+  pub profiles : List Profile
+  pub one : IsOneOf profiles j.profile.now
+  pub are : AreSitesOf profiles j.pkg.now j.pkgs.now j.body.now s
+
 -- in a context: what its profile shows and says of flags, the sites of the package, and the key of its REQUIRED_USE
 pub record ArePartsOf (j : JudgedPkg) (view : VisiblePkgs) (s : PkgSites) (required : List ℕ) : Type 0 where
   pub view_is : view ≡ seen j.pkgs.now j.profile.now
-  pub sites_are : AreSitesOf j.pkgs.now j.body.now s
+  pub sites_are : HasSites j s
   pub required_is : required ≡ required_key (case_of j).parent (unwrap_or j.body.now.required [])

@@ -6,7 +6,7 @@ ghost use Rattle.std.specs.Prelude.{◌≡◌, ◌++◌, [], option_map, unwrap_
 ghost use Rattle.std.specs.Option.{option_copied};
 ghost use Rattle.gv_lower.specs.Keys.{required_key};
 ghost use Rattle.gv_checks.specs.Judged.{case_of};
-ghost use Rattle.gv_checks.specs.Keys.{ArePartsOf, AreSitesOf, sites_at, sites_in};
+ghost use Rattle.gv_checks.specs.Keys.{ArePartsOf, AreSitesOf, HasSites, flags_in, sites_at, sites_in};
 ghost use Rattle.gv_checks.specs.Queries.{query_of};
 ghost use Rattle.gv_checks.specs.Shared.{key_of};
 
@@ -15,9 +15,9 @@ use crate::views::ProfileView;
 use gv_base::NoMemory;
 use gv_entry::Body;
 use gv_expr::{DepExpr, UseExpr};
-use gv_facts::Class;
+use gv_facts::{Class, Pkg};
 use gv_lower::{ClassSites, RequiredFlags, add_class_key, add_required_key};
-use gv_usestate::ProfileStates;
+use gv_usestate::{ProfileStates, RuledFlags};
 use gv_visible::PkgIndex;
 use std::alloc::Global;
 
@@ -34,44 +34,51 @@ pub(crate) struct PkgSites<'a> {
 
 fn required_in<'a>(
     alloc: Global,
+    ruled: &'a RuledFlags<'a>,
+    pkg: &'a Pkg,
     required: &'a Option<UseExpr>,
 ) -> Result<Option<RequiredFlags<'a>>, NoMemory>
-    ensures { IfOk result (λ flags. flags ≡ required.now) }
+    ensures { IfOk result (λ flags. flags ≡ option_map (flags_in ruled.now pkg.now) required.now) }
 {
     match required {
-        Some(required) => Ok(Some(RequiredFlags::new(alloc, required)?)),
+        Some(required) => Ok(Some(RequiredFlags::new(alloc, ruled, pkg, required)?)),
         None => Ok(None),
     }
 }
 
 fn sites_in<'a>(
     alloc: Global,
+    ruled: &'a RuledFlags<'a>,
+    pkg: &'a Pkg,
     index: &PkgIndex<'a>,
     class: &'a Option<DepExpr>,
 ) -> Result<Option<ClassSites<'a>>, NoMemory>
-    ensures { IfOk result (λ sites. sites ≡ option_map (sites_in index.now) class.now) }
+    ensures { IfOk result (λ sites. sites ≡ option_map (sites_in ruled.now pkg.now index.now) class.now) }
 {
     match class {
-        Some(class) => Ok(Some(ClassSites::new(alloc, index, class)?)),
+        Some(class) => Ok(Some(ClassSites::new(alloc, ruled, pkg, index, class)?)),
         None => Ok(None),
     }
 }
 
 impl<'a> PkgSites<'a> {
+    /// Those of the package in each of the profiles.
     pub(crate) fn new(
         alloc: Global,
+        ruled: &'a RuledFlags<'a>,
         index: &'a PkgIndex<'a>,
+        pkg: &'a Pkg,
         body: &'a Body,
     ) -> Result<PkgSites<'a>, NoMemory>
-        ensures { IfOk result (AreSitesOf index.now body.now) }
+        ensures { IfOk result (AreSitesOf ruled.now pkg.now index.now body.now) }
     {
         Ok(PkgSites {
-            required: required_in(alloc, &body.required)?,
-            depend: sites_in(alloc, index, &body.depend)?,
-            bdepend: sites_in(alloc, index, &body.bdepend)?,
-            rdepend: sites_in(alloc, index, &body.rdepend)?,
-            pdepend: sites_in(alloc, index, &body.pdepend)?,
-            idepend: sites_in(alloc, index, &body.idepend)?,
+            required: required_in(alloc, ruled, pkg, &body.required)?,
+            depend: sites_in(alloc, ruled, pkg, index, &body.depend)?,
+            bdepend: sites_in(alloc, ruled, pkg, index, &body.bdepend)?,
+            rdepend: sites_in(alloc, ruled, pkg, index, &body.rdepend)?,
+            pdepend: sites_in(alloc, ruled, pkg, index, &body.pdepend)?,
+            idepend: sites_in(alloc, ruled, pkg, index, &body.idepend)?,
         })
     }
 
@@ -106,30 +113,27 @@ impl<'a> PkgSites<'a> {
             Some(sites) => {
                 let seen = view.seen();
                 let states = view.states();
-                add_class_key(sites, judged.pkg, seen, states, judged.level, key)
+                add_class_key(sites, seen, states, judged.level, key)
             }
         }
     }
 }
 
-/// The key of REQUIRED_USE; of a broken one none.
+/// Makes the key of REQUIRED_USE; of a broken one it is empty.
 #[tactic(auto, using(crate::proofs::KeyLemmas::required_none))]
-pub(crate) fn required_key(
-    alloc: Global,
+pub(crate) fn make_required_key(
     judged: &JudgedPkg<'_>,
     states: &ProfileStates<'_>,
-    flags: &Option<RequiredFlags<'_>>,
-) -> Result<Vec<u8>, NoMemory>
+    sites: &PkgSites<'_>,
+    key: &mut Vec<u8>,
+) -> Result<(), NoMemory>
     requires states { states.now ≡ judged.now.profile.now }
-    requires flags { flags.now ≡ judged.now.body.now.required }
-    ensures { IfOk result (λ key. key.items ≡ required_key (case_of judged.now).parent (unwrap_or judged.now.body.now.required [])) }
+    requires sites { HasSites judged.now sites.now }
+    ensures { OnOk result (key.new.items ≡ required_key (case_of judged.now).parent (unwrap_or judged.now.body.now.required [])) }
 {
-    let mut key = Vec::new(alloc);
-    match flags {
-        None => Ok(key),
-        Some(flags) => {
-            add_required_key(flags, judged.pkg, states, judged.level, &mut key)?;
-            Ok(key)
-        }
+    key.clear();
+    match &sites.required {
+        None => Ok(()),
+        Some(flags) => add_required_key(flags, states, judged.level, key),
     }
 }

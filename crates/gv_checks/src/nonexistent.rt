@@ -1,7 +1,7 @@
 //! Atoms that match no package.
 //!
-//! O(a class's trees), down at most 64 groups, and for each atom a look-up of its category and name among the packages and
-//! the packages of that name.
+//! O(a class's trees), down at most 64 groups, and for each atom a look-up by hash of its category and name, and a test
+//! of the packages of that name.
 ghost use Rattle.std.specs.Prelude.{◌≡◌, ◌++◌, ◌∷◌, [], map, filter, flat_map, IfOk, OnOk};
 ghost use Rattle.std.specs.List.{list_any};
 ghost use Rattle.gv_expr.specs.Dep.{deps};
@@ -16,8 +16,9 @@ use gv_atom::{Atom, Block, print_atom};
 use gv_base::NoMemory;
 use gv_entry::{Body, class_in};
 use gv_expr::{DepExpr, DepTree};
-use gv_facts::{Class, Pkg, Pkgs, has_class, matches_pkg};
+use gv_facts::{Class, Pkg, has_class, matches_pkg};
 use gv_report::{Keyword, Options, Report, Reports};
+use gv_visible::PkgIndex;
 use std::alloc::Global;
 
 /// Whether the EAPI has the class, and it isn't broken.
@@ -49,11 +50,11 @@ fn some_match(pkgs: &[Pkg], places: &[u32], atom: &Atom) -> bool
 }
 
 // What matches has the atom's category and name, so no other package is looked at.
-fn is_nowhere(pkgs: &Pkgs, atom: &Atom) -> bool
-    ensures { result ≡ is_nowhere pkgs.now atom.now }
+fn is_nowhere(index: &PkgIndex<'_>, atom: &Atom) -> bool
+    ensures { result ≡ is_nowhere index.now atom.now }
 {
-    let places = pkgs.places_of(atom.category.bytes(), atom.name.bytes());
-    !some_match(pkgs.items(), places, atom)
+    let places = index.at(atom.category.bytes(), atom.name.bytes());
+    !some_match(index.pkgs().items(), places, atom)
 }
 
 fn nonexistent(alloc: Global, pkg: &Pkg, class: Class, atom: &Atom) -> Result<Report, NoMemory>
@@ -71,15 +72,15 @@ fn nonexistent(alloc: Global, pkg: &Pkg, class: Class, atom: &Atom) -> Result<Re
 
 fn add_wanted(
     alloc: Global,
-    pkgs: &Pkgs,
+    index: &PkgIndex<'_>,
     pkg: &Pkg,
     class: Class,
     atom: &Atom,
     reports: &mut Reports,
 ) -> Result<(), NoMemory>
-    ensures { OnOk result (reports.new ≡ reports.old ++ map (nonexistent pkg.now class) (filter (is_nowhere pkgs.now) (atom.now ∷ []))) }
+    ensures { OnOk result (reports.new ≡ reports.old ++ map (nonexistent pkg.now class) (filter (is_nowhere index.now) (atom.now ∷ []))) }
 {
-    if is_nowhere(pkgs, atom) {
+    if is_nowhere(index, atom) {
         reports.add(nonexistent(alloc, pkg, class, atom)?)?;
     }
     Ok(())
@@ -87,16 +88,16 @@ fn add_wanted(
 
 fn add_atom(
     alloc: Global,
-    pkgs: &Pkgs,
+    index: &PkgIndex<'_>,
     pkg: &Pkg,
     class: Class,
     atom: &Atom,
     reports: &mut Reports,
 ) -> Result<(), NoMemory>
-    ensures { OnOk result (reports.new ≡ reports.old ++ map (nonexistent pkg.now class) (filter (is_nowhere pkgs.now) (with_atom atom.now atom.now.block []))) }
+    ensures { OnOk result (reports.new ≡ reports.old ++ map (nonexistent pkg.now class) (filter (is_nowhere index.now) (with_atom atom.now atom.now.block []))) }
 {
     match atom.block {
-        Block::No => add_wanted(alloc, pkgs, pkg, class, atom, reports),
+        Block::No => add_wanted(alloc, index, pkg, class, atom, reports),
         Block::Weak | Block::Strong => Ok(()),
     }
 }
@@ -104,16 +105,16 @@ fn add_atom(
 #[cycle(atoms)]
 fn add_deps(
     alloc: Global,
-    pkgs: &Pkgs,
+    index: &PkgIndex<'_>,
     pkg: &Pkg,
     class: Class,
     items: &DepExpr,
     reports: &mut Reports,
 ) -> Result<(), NoMemory>
-    ensures { OnOk result (reports.new ≡ reports.old ++ nowhere_in pkgs.now pkg.now class (deps items.now)) }
+    ensures { OnOk result (reports.new ≡ reports.old ++ nowhere_in index.now pkg.now class (deps items.now)) }
 {
     for tree in &items.items {
-        add_dep(alloc, pkgs, pkg, class, tree, reports)?;
+        add_dep(alloc, index, pkg, class, tree, reports)?;
     }
     Ok(())
 }
@@ -121,18 +122,18 @@ fn add_deps(
 #[cycle(atoms)]
 fn add_dep(
     alloc: Global,
-    pkgs: &Pkgs,
+    index: &PkgIndex<'_>,
     pkg: &Pkg,
     class: Class,
     tree: &DepTree,
     reports: &mut Reports,
 ) -> Result<(), NoMemory>
-    ensures { OnOk result (reports.new ≡ reports.old ++ nowhere_in pkgs.now pkg.now class (deps (dep_of tree.now ∷ []))) }
+    ensures { OnOk result (reports.new ≡ reports.old ++ nowhere_in index.now pkg.now class (deps (dep_of tree.now ∷ []))) }
 {
     match tree {
-        DepTree::Leaf { atom } => add_atom(alloc, pkgs, pkg, class, atom, reports),
+        DepTree::Leaf { atom } => add_atom(alloc, index, pkg, class, atom, reports),
         DepTree::All { items } | DepTree::Any { items } | DepTree::If { items, .. } => {
-            add_deps(alloc, pkgs, pkg, class, items, reports)
+            add_deps(alloc, index, pkg, class, items, reports)
         }
     }
 }
@@ -140,33 +141,33 @@ fn add_dep(
 // Adds those of a class. REQUIRED_USE has no atoms.
 fn add_class(
     alloc: Global,
-    pkgs: &Pkgs,
+    index: &PkgIndex<'_>,
     pkg: &Pkg,
     body: &Body,
     class: Class,
     reports: &mut Reports,
 ) -> Result<(), NoMemory>
-    ensures { OnOk result (reports.new ≡ reports.old ++ nonexistent_in pkgs.now pkg.now body.now class) }
+    ensures { OnOk result (reports.new ≡ reports.old ++ nonexistent_in index.now pkg.now body.now class) }
 {
     match class_in(body, class) {
-        Some(items) => add_deps(alloc, pkgs, pkg, class, items, reports),
+        Some(items) => add_deps(alloc, index, pkg, class, items, reports),
         None => Ok(()),
     }
 }
 
 fn add_classes(
     alloc: Global,
-    pkgs: &Pkgs,
+    index: &PkgIndex<'_>,
     pkg: &Pkg,
     body: &Body,
     classes: &[Class],
     reports: &mut Reports,
 ) -> Result<(), NoMemory>
-    ensures { OnOk result (reports.new ≡ reports.old ++ flat_map (nonexistent_in pkgs.now pkg.now body.now) (filter (is_readable pkg.now body.now) classes.now)) }
+    ensures { OnOk result (reports.new ≡ reports.old ++ flat_map (nonexistent_in index.now pkg.now body.now) (filter (is_readable pkg.now body.now) classes.now)) }
 {
     for class in classes {
         if is_readable(pkg, body, *class) {
-            add_class(alloc, pkgs, pkg, body, *class, reports)?;
+            add_class(alloc, index, pkg, body, *class, reports)?;
         }
     }
     Ok(())
@@ -176,15 +177,15 @@ fn add_classes(
 pub(crate) fn add_nonexistent(
     alloc: Global,
     options: &Options,
-    pkgs: &Pkgs,
+    index: &PkgIndex<'_>,
     pkg: &Pkg,
     body: &Body,
     reports: &mut Reports,
 ) -> Result<(), NoMemory>
-    ensures { OnOk result (reports.new ≡ reports.old ++ told_nonexistent options.now pkgs.now pkg.now body.now) }
+    ensures { OnOk result (reports.new ≡ reports.old ++ told_nonexistent options.now index.now pkg.now body.now) }
 {
     if options.keywords.has(Keyword::NonexistentDeps) {
-        return add_classes(alloc, pkgs, pkg, body, &classes(), reports);
+        return add_classes(alloc, index, pkg, body, &classes(), reports);
     }
     Ok(())
 }

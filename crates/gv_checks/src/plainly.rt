@@ -145,17 +145,19 @@ fn add_member(
     alloc: Global,
     options: &Options,
     repo: &Repo,
+    index: &PkgIndex<'_>,
     views: &[ProfileView<'_>],
     number: u32,
     pkg: &Pkg,
     body: &Body,
     reports: &mut Reports,
 ) -> Result<(), NoMemory>
+    requires index { index.now ≡ repo.now.pkgs }
     requires views { views.now ≡ map (seen repo.now.pkgs) repo.now.profiles }
     requires numbered { slice_get repo.now.pkgs number ≡ Some pkg.now }
     ensures { OnOk result (reports.new ≡ reports.old ++ told_member options.now repo.now (record { number = number; pkg = pkg.now; body = body.now })) }
 {
-    add_nonexistent(alloc, options, &repo.pkgs, pkg, body, reports)?;
+    add_nonexistent(alloc, options, index, pkg, body, reports)?;
     let others = other_flags(alloc, pkg, body)?;
     add_cases(
         alloc, options, repo, views, number, pkg, body, &others, reports,
@@ -166,11 +168,13 @@ fn add_members(
     alloc: Global,
     options: &Options,
     repo: &Repo,
+    index: &PkgIndex<'_>,
     views: &[ProfileView<'_>],
     pkgs: &[Pkg],
     bodies: &[Body],
     reports: &mut Reports,
 ) -> Result<(), NoMemory>
+    requires index { index.now ≡ repo.now.pkgs }
     requires views { views.now ≡ map (seen repo.now.pkgs) repo.now.profiles }
     requires pkgs { pkgs.now ≡ repo.now.pkgs }
     ensures { OnOk result (reports.new ≡ reports.old ++ flat_map (told_member options.now repo.now) (members_from 0 pkgs.now bodies.now)) }
@@ -183,7 +187,7 @@ fn add_members(
             return Err(NoMemory);
         };
         add_member(
-            alloc, options, repo, views, number, pkg, &bodies[i], reports,
+            alloc, options, repo, index, views, number, pkg, &bodies[i], reports,
         )?;
     }
     Ok(())
@@ -194,10 +198,12 @@ fn add_members(
 pub(crate) fn plain_among(
     alloc: Global,
     repo: &Repo,
+    index: &PkgIndex<'_>,
     views: &[ProfileView<'_>],
     options: &Options,
 ) -> Result<Reports, NoMemory>
-    requires { views.now ≡ map (seen repo.now.pkgs) repo.now.profiles }
+    requires index { index.now ≡ repo.now.pkgs }
+    requires views { views.now ≡ map (seen repo.now.pkgs) repo.now.profiles }
     ensures { IfOk result (λ reports. reports ≡ filter (selected options.now) (plain_reports repo.now)) }
 {
     let mut reports = Reports::new(alloc);
@@ -206,6 +212,7 @@ pub(crate) fn plain_among(
         alloc,
         options,
         repo,
+        index,
         views,
         repo.pkgs.items(),
         repo.bodies.items(),
@@ -224,7 +231,7 @@ fn plain_indexed<'a>(
     ensures { IfOk result (λ reports. reports ≡ filter (selected options.now) (plain_reports repo.now)) }
 {
     let views = all_views(alloc, index, repo.profiles.items())?;
-    plain_among(alloc, repo, &views, options)
+    plain_among(alloc, repo, index, &views, options)
 }
 
 fn plain_over(

@@ -18,6 +18,7 @@ use gv_base::{Ledger, NoMemory, Steps, Text};
 use gv_cert::Known;
 use gv_load::Repo;
 use gv_report::{Options, Reports, ordered};
+use gv_usestate::RuledFlags;
 use gv_visible::PkgIndex;
 use std::alloc::Global;
 
@@ -70,16 +71,18 @@ fn recall_indexed<'a, L: Ledger>(
     alloc: Global,
     repo: &'a Repo,
     index: &'a PkgIndex<'a>,
+    ruled: &RuledFlags<'_>,
     options: &Options,
     certs: &Known,
     steps: &mut Steps<L>,
 ) -> Result<Recalled, RecallFault>
-    requires { index.now ≡ repo.now.pkgs }
+    requires index { index.now ≡ repo.now.pkgs }
+    requires ruled { ruled.now ≡ repo.now.profiles }
     ensures recalls { Recalls options.now certs.now repo.now result }
     ensures unsolved { steps.new.solve ≡ steps.old.solve }
 {
     let views = all_views(alloc, index, repo.profiles.items())?;
-    let first = plain_among(alloc, repo, &views, options)?;
+    let first = plain_among(alloc, repo, index, &views, options)?;
     let mut progress = Progress {
         used: Used::new(alloc),
         reports: first,
@@ -89,6 +92,7 @@ fn recall_indexed<'a, L: Ledger>(
         alloc,
         repo,
         &*index,
+        ruled,
         &views,
         options,
         0,
@@ -108,15 +112,17 @@ fn recall_over<L: Ledger>(
     alloc: Global,
     repo: &Repo,
     index: &PkgIndex<'_>,
+    ruled: &RuledFlags<'_>,
     options: &Options,
     certs: &Known,
     steps: &mut Steps<L>,
 ) -> Result<Recalled, RecallFault>
-    requires { index.now ≡ repo.now.pkgs }
+    requires index { index.now ≡ repo.now.pkgs }
+    requires ruled { ruled.now ≡ repo.now.profiles }
     ensures recalls { Recalls options.now certs.now repo.now result }
     ensures unsolved { steps.new.solve ≡ steps.old.solve }
 {
-    recall_indexed(alloc, &*repo, &*index, options, certs, steps)
+    recall_indexed(alloc, &*repo, &*index, ruled, options, certs, steps)
 }
 
 /// The reports of a scan, in order, equal ones once, where each query has a backed record among the given ones. Each query is
@@ -132,5 +138,6 @@ pub fn recall<L: Ledger>(
     ensures unsolved { steps.new.solve ≡ steps.old.solve }
 {
     let index = PkgIndex::new(alloc, &repo.pkgs)?;
-    recall_over(alloc, repo, &index, options, certs, steps)
+    let ruled = RuledFlags::new(alloc, repo.profiles.items())?;
+    recall_over(alloc, repo, &index, &ruled, options, certs, steps)
 }

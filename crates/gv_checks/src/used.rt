@@ -1,7 +1,7 @@
 //! Answers to gates, one for each distinct ones.
 //!
-//! Gates cost the writing of their bytes and a look-up by them, O(their places and operands); only the first time their
-//! records or the solver.
+//! Gates cost a look-up by their bytes, O(their places and operands), and where a record is known that has them, a comparison;
+//! only the first time their records or the solver.
 ghost use Rattle.std.specs.Prelude.{◌≡◌, true, ◌<◌, ◌≤◌, ◌∷◌, ◌++◌, [], length, if◌then◌else◌, IfOk, IfErr, OnOk};
 ghost use Rattle.gv_base.specs.Steps.{after};
 ghost use Rattle.gv_base.specs.declared.steps.Kind.TheVariants.{Solve};
@@ -14,7 +14,7 @@ ghost use Rattle.gv_checks.specs.Progress.{AreSome, CountsAnswer, SpentBy, Uses}
 
 use gv_base::{Ledger, NoMemory, Steps, Text};
 use gv_cert::{Claim, Known, write_answer};
-use gv_logic::{Bits, Gates, circuit_law, gate_bytes};
+use gv_logic::{Bits, Gates, circuit_law};
 use gv_query::{Outcome, ask, first_backed};
 use gv_solver::FlagSets;
 use std::alloc::Global;
@@ -158,7 +158,36 @@ impl Used {
         }
     }
 
-    /// `place`, where the gates have these bytes: where the record of this number has them, they are looked for no further.
+    // The place of what is found for the gates, which have these bytes, and are asked about where they are new; with no
+    // budget, of the records alone.
+    fn place<L: Ledger>(
+        &mut self,
+        alloc: Global,
+        query: &Text,
+        gates: &Gates,
+        budget: u32,
+        given: &Known,
+        steps: &mut Steps<L>,
+    ) -> Result<usize, AskFault>
+        requires bytes { query.now ≡ circuit_bytes gates.now }
+        requires most { budget ≤ 1000000 }
+        requires used { AreSome budget given.now self.old steps.old }
+        ensures uses { Uses budget given.now gates.now self.old self.new steps.old steps.new result }
+        ensures unsolved { budget ≡ 0 → steps.new ≡ steps.old }
+    {
+        circuit_law();
+        let _inputs = gates.inputs();
+        if let Some(number) = self.certs.find(query.bytes(), 0) {
+            return Ok(number as usize);
+        }
+        let Answer { claim, reused: _ } = answer_within(alloc, gates, budget, given, steps)?;
+        let bytes = write_answer(alloc, &claim)?;
+        let place = self.found.as_slice().len();
+        self.keep(query, claim, &bytes)?;
+        Ok(place)
+    }
+
+    /// The same, but where the record of this number has these bytes, they are looked for no further.
     pub(crate) fn place_near<L: Ledger>(
         &mut self,
         alloc: Global,
@@ -180,34 +209,6 @@ impl Used {
         if self.has_at(near, query.bytes()) {
             return Ok(near);
         }
-        self.place(alloc, gates, budget, given, steps)
-    }
-
-    /// The place of what is found for the gates, which are asked about where they are new; with no budget, of the records
-    /// alone.
-    pub(crate) fn place<L: Ledger>(
-        &mut self,
-        alloc: Global,
-        gates: &Gates,
-        budget: u32,
-        given: &Known,
-        steps: &mut Steps<L>,
-    ) -> Result<usize, AskFault>
-        requires most { budget ≤ 1000000 }
-        requires used { AreSome budget given.now self.old steps.old }
-        ensures uses { Uses budget given.now gates.now self.old self.new steps.old steps.new result }
-        ensures unsolved { budget ≡ 0 → steps.new ≡ steps.old }
-    {
-        circuit_law();
-        let _inputs = gates.inputs();
-        let query = gate_bytes(alloc, gates)?;
-        if let Some(number) = self.certs.find(query.bytes(), 0) {
-            return Ok(number as usize);
-        }
-        let Answer { claim, reused: _ } = answer_within(alloc, gates, budget, given, steps)?;
-        let bytes = write_answer(alloc, &claim)?;
-        let place = self.found.as_slice().len();
-        self.keep(&query, claim, &bytes)?;
-        Ok(place)
+        self.place(alloc, query, gates, budget, given, steps)
     }
 }

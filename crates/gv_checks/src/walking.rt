@@ -7,7 +7,7 @@ ghost use Rattle.std.specs.Prelude.{◌≡◌, ◌≤◌, ◌++◌, Some, slice_
 ghost use Rattle.gv_visible.specs.Told.{test_of};
 ghost use Rattle.gv_checks.specs.Cases.{case_in, cases_of, members, members_from};
 ghost use Rattle.gv_checks.specs.Judged.{AreAround, IsNumbered, case_of};
-ghost use Rattle.gv_checks.specs.Keys.{ArePartsOf, AreSitesOf};
+ghost use Rattle.gv_checks.specs.Keys.{ArePartsOf, HasSites};
 ghost use Rattle.gv_checks.specs.Shared.{AreShared};
 ghost use Rattle.gv_checks.specs.Walks.{seen};
 ghost use Rattle.gv_checks.specs.Progress.{IsSomewhere, Judges};
@@ -16,7 +16,7 @@ ghost use Rattle.gv_checks.specs.Queries.{case_queries, is_asked, queries, query
 use crate::classes::classes;
 use crate::judged::JudgedPkg;
 use crate::judging::{Progress, add_case_names, is_asked, judge_query};
-use crate::keys::{PkgSites, required_key};
+use crate::keys::{PkgSites, make_required_key};
 use crate::shared::Shared;
 use crate::views::ProfileView;
 use crate::{JudgeFault, QueryNames};
@@ -26,6 +26,7 @@ use gv_entry::Body;
 use gv_facts::{Class, Pkg, Profile};
 use gv_load::Repo;
 use gv_report::Options;
+use gv_usestate::RuledFlags;
 use gv_visible::{Candidates, PkgIndex, judged, visible};
 use std::alloc::Global;
 
@@ -77,11 +78,12 @@ fn judge_case<'a, L: Ledger>(
     given: &Known,
     progress: &mut Progress,
     shared: &mut Shared,
+    required: &mut Vec<u8>,
     steps: &mut Steps<L>,
 ) -> Result<(), JudgeFault>
     requires numbered { IsNumbered judged.now }
     requires view { view.now ≡ seen judged.now.pkgs.now judged.now.profile.now }
-    requires sites { AreSitesOf judged.now.pkgs.now judged.now.body.now sites.now }
+    requires sites { HasSites judged.now sites.now }
     requires most { budget ≤ 1000000 }
     requires somewhere { IsSomewhere budget given.now progress.old steps.old }
     requires shared { AreShared judged.now.pkg.now judged.now.body.now shared.old.queries.items }
@@ -89,7 +91,7 @@ fn judge_case<'a, L: Ledger>(
     ensures unsolved { budget ≡ 0 → steps.new.solve ≡ steps.old.solve }
     ensures shared { OnOk result (AreShared judged.now.pkg.now judged.now.body.now shared.new.queries.items) }
 {
-    let required = required_key(alloc, judged, view.states(), &sites.required)?;
+    make_required_key(judged, view.states(), sites, required)?;
     let profile = view.profile();
     let level = judged.level;
     let test = |pkg: &Pkg| visible(pkg, profile, level);
@@ -100,7 +102,7 @@ fn judge_case<'a, L: Ledger>(
         judged,
         view,
         sites,
-        &required,
+        required.as_slice(),
         &classes(),
         options,
         budget,
@@ -115,9 +117,10 @@ fn judge_pkg<'a, L: Ledger>(
     alloc: Global,
     repo: &Repo,
     index: &'a PkgIndex<'a>,
+    ruled: &'a RuledFlags<'a>,
     views: &[ProfileView<'_>],
     number: u32,
-    pkg: &Pkg,
+    pkg: &'a Pkg,
     body: &'a Body,
     options: &Options,
     budget: u32,
@@ -126,6 +129,7 @@ fn judge_pkg<'a, L: Ledger>(
     steps: &mut Steps<L>,
 ) -> Result<(), JudgeFault>
     requires index { index.now ≡ repo.now.pkgs }
+    requires ruled { ruled.now ≡ repo.now.profiles }
     requires views { views.now ≡ map (seen repo.now.pkgs) repo.now.profiles }
     requires numbered { slice_get repo.now.pkgs number ≡ Some pkg.now }
     requires most { budget ≤ 1000000 }
@@ -133,8 +137,9 @@ fn judge_pkg<'a, L: Ledger>(
     ensures judges { Judges budget given.now (flat_map (case_queries options.now) (filter_map (case_in repo.now.pkgs (record { number = number; pkg = pkg.now; body = body.now })) repo.now.profiles)) progress.old progress.new steps.old steps.new result }
     ensures unsolved { budget ≡ 0 → steps.new.solve ≡ steps.old.solve }
 {
-    let sites = PkgSites::new(alloc, index, body)?;
+    let sites = PkgSites::new(alloc, ruled, index, pkg, body)?;
     let mut shared = Shared::new(alloc);
+    let mut required = Vec::new(alloc);
     for view in views {
         if let Some(level) = view.judged(number) {
             let judged = JudgedPkg {
@@ -155,6 +160,7 @@ fn judge_pkg<'a, L: Ledger>(
                 given,
                 progress,
                 &mut shared,
+                &mut required,
                 steps,
             ) {
                 Ok(()) => {}
@@ -170,6 +176,7 @@ pub(crate) fn judge_all<L: Ledger>(
     alloc: Global,
     repo: &Repo,
     index: &PkgIndex<'_>,
+    ruled: &RuledFlags<'_>,
     views: &[ProfileView<'_>],
     options: &Options,
     budget: u32,
@@ -178,6 +185,7 @@ pub(crate) fn judge_all<L: Ledger>(
     steps: &mut Steps<L>,
 ) -> Result<(), JudgeFault>
     requires index { index.now ≡ repo.now.pkgs }
+    requires ruled { ruled.now ≡ repo.now.profiles }
     requires views { views.now ≡ map (seen repo.now.pkgs) repo.now.profiles }
     requires most { budget ≤ 1000000 }
     requires somewhere { IsSomewhere budget given.now progress.old steps.old }
@@ -194,8 +202,8 @@ pub(crate) fn judge_all<L: Ledger>(
             return Err(JudgeFault::NoMemory);
         };
         match judge_pkg(
-            alloc, repo, &*index, views, number, pkg, &bodies[i], options, budget, given, progress,
-            steps,
+            alloc, repo, &*index, &*ruled, views, number, pkg, &bodies[i], options, budget, given,
+            progress, steps,
         ) {
             Ok(()) => {}
             Err(fault) => return Err(fault),

@@ -15,6 +15,7 @@ use gv_base::{Ledger, Steps};
 use gv_cert::Known;
 use gv_load::Repo;
 use gv_report::{Options, Reports, ordered};
+use gv_usestate::RuledFlags;
 use gv_visible::PkgIndex;
 use std::alloc::Global;
 
@@ -33,15 +34,17 @@ fn judge_indexed<'a, L: Ledger>(
     alloc: Global,
     repo: &'a Repo,
     index: &'a PkgIndex<'a>,
+    ruled: &RuledFlags<'_>,
     options: &Options,
     certs: &Known,
     steps: &mut Steps<L>,
 ) -> Result<Judged, JudgeFault>
-    requires { index.now ≡ repo.now.pkgs }
+    requires index { index.now ≡ repo.now.pkgs }
+    requires ruled { ruled.now ≡ repo.now.profiles }
     ensures { JudgesAll options.now certs.now repo.now steps.old steps.new result }
 {
     let views = all_views(alloc, index, repo.profiles.items())?;
-    let first = plain_among(alloc, repo, &views, options)?;
+    let first = plain_among(alloc, repo, index, &views, options)?;
     let mut progress = Progress {
         used: Used::new(alloc),
         reports: first,
@@ -51,6 +54,7 @@ fn judge_indexed<'a, L: Ledger>(
         alloc,
         repo,
         &*index,
+        ruled,
         &views,
         options,
         options.budget,
@@ -79,14 +83,16 @@ fn judge_over<L: Ledger>(
     alloc: Global,
     repo: &Repo,
     index: &PkgIndex<'_>,
+    ruled: &RuledFlags<'_>,
     options: &Options,
     certs: &Known,
     steps: &mut Steps<L>,
 ) -> Result<Judged, JudgeFault>
-    requires { index.now ≡ repo.now.pkgs }
+    requires index { index.now ≡ repo.now.pkgs }
+    requires ruled { ruled.now ≡ repo.now.profiles }
     ensures { JudgesAll options.now certs.now repo.now steps.old steps.new result }
 {
-    judge_indexed(alloc, &*repo, &*index, options, certs, steps)
+    judge_indexed(alloc, &*repo, &*index, ruled, options, certs, steps)
 }
 
 /// The reports of a scan, in order, equal ones once; and one record for each distinct query by the bytes of its gates, in
@@ -103,5 +109,6 @@ pub fn judge<L: Ledger>(
     ensures { JudgesAll options.now certs.now repo.now steps.old steps.new result }
 {
     let index = PkgIndex::new(alloc, &repo.pkgs)?;
-    judge_over(alloc, repo, &index, options, certs, steps)
+    let ruled = RuledFlags::new(alloc, repo.profiles.items())?;
+    judge_over(alloc, repo, &index, &ruled, options, certs, steps)
 }

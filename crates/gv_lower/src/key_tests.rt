@@ -1,10 +1,13 @@
 //! Keys of queries on repositories made by hand. Each line of a table is one case.
+ghost use Rattle.std.specs.Prelude.{IfSome};
+ghost use Rattle.gv_usestate.specs.Kinds.{IsOneOf};
+
 use crate::made::{body, eapi_of, pkgs, profile};
 use crate::{ClassSites, RequiredFlags, add_class_key, add_required_key, key_law};
 use gv_base::NoMemory;
 use gv_entry::Body;
-use gv_facts::{Level, Pkgs, Profile};
-use gv_usestate::ProfileStates;
+use gv_facts::{Level, Pkgs, Profile, Profiles};
+use gv_usestate::{ProfileStates, RuledFlags};
 use gv_visible::{PkgIndex, VisiblePkgs};
 use std::alloc::Global;
 use std::process::Abort;
@@ -34,24 +37,36 @@ const KEYS: &str = "\
 8;a;a;x/y;;;|| ( x/y[-a] x/y );13010
 6;a;-;x/y;;^^ ( a );|| ( !!x/y[a?] );2";
 
+fn first(profiles: &[Profile]) -> Option<&Profile>
+    ensures { IfSome result (λ profile. IsOneOf profiles.now profile.now) }
+{
+    match profiles {
+        [profile, ..] => Some(profile),
+        [] => None,
+    }
+}
+
 // The key of the query about RDEPEND of the first package, at stable.
 fn key_in<'a>(
     alloc: Global,
     index: &'a PkgIndex<'a>,
+    ruled: &'a RuledFlags<'a>,
     profile: &'a Profile,
     body: &'a Body,
-) -> Result<Vec<u8>, NoMemory> {
+) -> Result<Vec<u8>, NoMemory>
+    requires { IsOneOf ruled.now profile.now }
+{
     let seen = VisiblePkgs::new(alloc, index, profile)?;
     let states = ProfileStates::new(alloc, profile)?;
     let mut key = Vec::new(alloc);
     for pkg in index.pkgs().items().iter().take(1) {
         if let Some(required) = &body.required {
-            let flags = RequiredFlags::new(alloc, required)?;
-            add_required_key(&flags, pkg, &states, Level::Stable, &mut key)?;
+            let flags = RequiredFlags::new(alloc, ruled, pkg, required)?;
+            add_required_key(&flags, &states, Level::Stable, &mut key)?;
         }
         if let Some(class) = &body.rdepend {
-            let sites = ClassSites::new(alloc, index, class)?;
-            add_class_key(&sites, pkg, &seen, &states, Level::Stable, &mut key)?;
+            let sites = ClassSites::new(alloc, ruled, pkg, index, class)?;
+            add_class_key(&sites, &seen, &states, Level::Stable, &mut key)?;
         }
     }
     Ok(key)
@@ -60,20 +75,27 @@ fn key_in<'a>(
 fn key_over(
     alloc: Global,
     index: &PkgIndex<'_>,
+    ruled: &RuledFlags<'_>,
     profile: &Profile,
     body: &Body,
-) -> Result<Vec<u8>, NoMemory> {
-    key_in(alloc, &*index, &*profile, &*body)
+) -> Result<Vec<u8>, NoMemory>
+    requires { IsOneOf ruled.now profile.now }
+{
+    key_in(alloc, &*index, &*ruled, &*profile, &*body)
 }
 
 fn key_among(
     alloc: Global,
     pkgs: &Pkgs,
-    profile: &Profile,
+    profiles: &Profiles,
     body: &Body,
 ) -> Result<Vec<u8>, NoMemory> {
     let index = PkgIndex::new(alloc, pkgs)?;
-    key_over(alloc, &index, profile, body)
+    let ruled = RuledFlags::new(alloc, profiles.items())?;
+    match first(profiles.items()) {
+        Some(profile) => key_over(alloc, &index, &ruled, profile, body),
+        None => Err(NoMemory),
+    }
 }
 
 fn has_key<R: Abort>(rt: &R, alloc: Global, line: &str) {
@@ -82,13 +104,17 @@ fn has_key<R: Abort>(rt: &R, alloc: Global, line: &str) {
     let iuse = parts.next().expect(rt, "IUSE");
     let others = parts.next().expect(rt, "IUSE of x/y-1");
     let atom = parts.next().expect(rt, "an atom");
-    let profile = profile(rt, alloc, atom, parts.next().expect(rt, "forced flags"));
+    let forced = parts.next().expect(rt, "forced flags");
+    let mut profiles = Profiles::new(alloc);
+    profiles
+        .add(profile(rt, alloc, atom, forced))
+        .expect(rt, "memory");
     let required = parts.next().expect(rt, "REQUIRED_USE").as_bytes();
     let rdepend = parts.next().expect(rt, "RDEPEND").as_bytes();
     let body = body(rt, alloc, required, rdepend);
     let want = parts.next().expect(rt, "a key").as_bytes();
     let pkgs = pkgs(rt, alloc, eapi, iuse, others);
-    let key = key_among(alloc, &pkgs, &profile, &body).expect(rt, "memory");
+    let key = key_among(alloc, &pkgs, &profiles, &body).expect(rt, "memory");
     let mut got = Vec::new(alloc);
     for number in key.as_slice() {
         got.push(number.saturating_add(b'0')).expect(rt, "memory");

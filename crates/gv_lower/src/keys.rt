@@ -1,23 +1,25 @@
 //! Keys of queries: what tells whether two contexts of a package have one and the same query, without its gates.
 //!
-//! A key costs for each mention of a flag its state, for each package that an atom matches O(1), and where that is visible the
-//! states of the flags that the atom's items name. It takes no memory but that of the bytes that are added.
-ghost use Rattle.std.specs.Prelude.{◌≡◌, ◌++◌, List, slice_get, flat_map, OnOk};
+//! A key costs O(1) for each mention of a flag that is plain in all profiles, for any other its state, for each package that
+//! an atom matches O(1), and where that is visible the same for the flags that the atom's items name. It takes no memory but
+//! that of the bytes that are added.
+ghost use Rattle.std.specs.Prelude.{◌≡◌, ◌++◌, ◌∷◌, List, flat_map, OnOk};
+ghost use Rattle.std.specs.List.{AllByRecursion};
 ghost use Rattle.gv_entry.specs.Allowed.{Parent};
 ghost use Rattle.gv_expr.specs.Dep.{Dep};
 ghost use Rattle.gv_expr.specs.Req.{Req};
 ghost use Rattle.gv_facts.specs.States.{state};
 ghost use Rattle.gv_lower.specs.Around.{alone};
-ghost use Rattle.gv_lower.specs.Keys.{HaveSameAllowed, HaveSameFailing, candidate_key, class_key, other_key, own_key, query_key, required_key};
-ghost use Rattle.gv_lower.specs.KeysAround.{other_keys, own_keys, place_key, site_key};
-ghost use Rattle.gv_lower.specs.Mentions.{texts_of};
+ghost use Rattle.gv_lower.specs.Keys.{HaveSameAllowed, HaveSameFailing, class_key, other_key, own_key, query_key, required_key};
+ghost use Rattle.gv_lower.specs.KeysAround.{AreKnown, IsKnownAt, other_keys, own_keys, place_key, site_key};
+ghost use Rattle.gv_usestate.specs.Kinds.{IsOneOf};
 ghost use Rattle.gv_visible.specs.Shown.{are_visible};
 
-use crate::sites::{AtomSite, ClassSites, RequiredFlags};
-use gv_atom::UseItem;
+use crate::known::KnownFlag;
+use crate::sites::{AtomSite, ClassSites, PlaceSite, RequiredFlags};
 use gv_base::NoMemory;
 use gv_facts::{FlagState, Level, Pkg};
-use gv_usestate::ProfileStates;
+use gv_usestate::{ProfileStates, kind_law};
 use gv_visible::VisiblePkgs;
 
 /// Two parents of the same EAPI have one and the same query about REQUIRED_USE where the keys of REQUIRED_USE are equal, and
@@ -27,25 +29,24 @@ pub fn key_law()
     ensures failing { (c d : Parent) (required : List Req) (class : List Dep) → c.pkg.eapi ≡ d.pkg.eapi → query_key c required class ≡ query_key d required class → HaveSameFailing c d required class }
 {}
 
-/// Adds the key of the package's REQUIRED_USE at this level.
+/// Adds the key of the package's REQUIRED_USE in the profile, which is one of those of the flags, at this level.
 pub fn add_required_key(
     flags: &RequiredFlags<'_>,
-    pkg: &Pkg,
     states: &ProfileStates<'_>,
     level: Level,
     key: &mut Vec<u8>,
 ) -> Result<(), NoMemory>
-    ensures { OnOk result (key.new.items ≡ key.old.items ++ required_key (alone pkg.now states.now level) flags.now) }
+    requires { IsOneOf flags.now.profiles states.now }
+    ensures { OnOk result (key.new.items ≡ key.old.items ++ required_key (alone flags.now.of states.now level) flags.now.required) }
 {
-    add_own(flags.flags().items(), pkg, states, level, key)
+    kind_law();
+    add_own(flags.flags(), flags.pkg(), states, level, key)
 }
 
-/// Adds the key of a class of the package at this level, among the packages that the profile shows. Behind that of its
-/// REQUIRED_USE it makes that of the query.
-#[tactic(auto, using(crate::proofs::KeysMade::class_made))]
+/// Adds the key of a class of the package at this level, among the packages that the profile shows, which is one of those of the
+/// sites. Behind that of its REQUIRED_USE it makes that of the query.
 pub fn add_class_key(
     sites: &ClassSites<'_>,
-    pkg: &Pkg,
     seen: &VisiblePkgs<'_>,
     states: &ProfileStates<'_>,
     level: Level,
@@ -53,9 +54,11 @@ pub fn add_class_key(
 ) -> Result<(), NoMemory>
     requires pkgs { sites.now.pkgs ≡ seen.now.pkgs }
     requires profile { states.now ≡ seen.now.profile }
-    ensures { OnOk result (key.new.items ≡ key.old.items ++ class_key (record { pkg = pkg.now; profile = seen.now.profile; level = level; among = seen.now.pkgs }) sites.now.class) }
+    requires one { IsOneOf sites.now.profiles states.now }
+    ensures { OnOk result (key.new.items ≡ key.old.items ++ class_key (record { pkg = sites.now.of; profile = seen.now.profile; level = level; among = seen.now.pkgs }) sites.now.class) }
 {
-    add_own(sites.flags().items(), pkg, states, level, key)?;
+    kind_law();
+    add_own(sites.flags(), sites.pkg(), states, level, key)?;
     let pkgs = seen.index().pkgs().items();
     add_atoms(sites.atoms(), seen.at(level), pkgs, states, level, key)
 }
@@ -83,65 +86,73 @@ fn other_key(state: FlagState) -> u8
 
 // Of the parent's flags.
 fn add_own(
-    flags: &[&[u8]],
+    flags: &[KnownFlag<'_>],
     pkg: &Pkg,
     states: &ProfileStates<'_>,
     level: Level,
     key: &mut Vec<u8>,
 ) -> Result<(), NoMemory>
-    ensures { OnOk result (key.new.items ≡ key.old.items ++ own_keys (state pkg.now states.now level) (texts_of flags.now)) }
+    requires { AreKnown states.now pkg.now flags.now }
+    ensures { OnOk result (key.new.items ≡ key.old.items ++ own_keys (state pkg.now states.now level) flags.now) }
 {
-    for flag in flags {
-        key.push(own_key(states.state(pkg, level, flag)))?;
+    for known in flags {
+        let state = states.state_as(known.kind, pkg, level, known.flag);
+        key.push(own_key(state))?;
     }
     Ok(())
 }
 
-// The states of the flags that the items name, at a candidate.
+// Of a candidate's flags that the items name.
 fn add_states(
-    items: &[UseItem],
+    flags: &[KnownFlag<'_>],
     pkg: &Pkg,
     states: &ProfileStates<'_>,
     level: Level,
     key: &mut Vec<u8>,
 ) -> Result<(), NoMemory>
-    ensures { OnOk result (key.new.items ≡ key.old.items ++ other_keys (state pkg.now states.now level) items.now) }
+    requires { AreKnown states.now pkg.now flags.now }
+    ensures { OnOk result (key.new.items ≡ key.old.items ++ other_keys (state pkg.now states.now level) flags.now) }
 {
-    for item in items {
-        key.push(other_key(states.state(pkg, level, item.flag.bytes())))?;
+    for known in flags {
+        let state = states.state_as(known.kind, pkg, level, known.flag);
+        key.push(other_key(state))?;
     }
     Ok(())
 }
 
 fn add_candidate(
-    items: &[UseItem],
+    flags: &[KnownFlag<'_>],
     pkg: &Pkg,
     states: &ProfileStates<'_>,
     level: Level,
     key: &mut Vec<u8>,
 ) -> Result<(), NoMemory>
-    ensures { OnOk result (key.new.items ≡ key.old.items ++ candidate_key (state pkg.now states.now level) items.now) }
+    requires { AreKnown states.now pkg.now flags.now }
+    ensures { OnOk result (key.new.items ≡ key.old.items ++ 1 ∷ other_keys (state pkg.now states.now level) flags.now) }
 {
     key.push(1)?;
-    add_states(items, pkg, states, level, key)
+    add_states(flags, pkg, states, level, key)
 }
 
 // The package at this place, where it is visible.
 fn add_shown(
-    items: &[UseItem],
-    place: u32,
+    site: &PlaceSite<'_>,
     shown: &[bool],
     pkgs: &[Pkg],
     states: &ProfileStates<'_>,
     level: Level,
     key: &mut Vec<u8>,
 ) -> Result<(), NoMemory>
-    requires { shown.now ≡ are_visible states.now level pkgs.now }
-    ensures { OnOk result (key.new.items ≡ key.old.items ++ place_key states.now level items.now (slice_get pkgs.now place)) }
+    requires shown { shown.now ≡ are_visible states.now level pkgs.now }
+    requires known { IsKnownAt states.now pkgs.now site.now }
+    ensures { OnOk result (key.new.items ≡ key.old.items ++ place_key states.now level pkgs.now site.now) }
 {
-    let is_shown = shown.get(place as usize).copied();
-    match pkgs.get(place as usize) {
-        Some(pkg) if is_shown == Some(true) => add_candidate(items, pkg, states, level, key),
+    let place = site.place() as usize;
+    let is_shown = shown.get(place).copied();
+    match pkgs.get(place) {
+        Some(pkg) if is_shown == Some(true) => {
+            add_candidate(site.flags(), pkg, states, level, key)
+        }
         _ => Ok(()),
     }
 }
@@ -155,12 +166,12 @@ fn add_atom(
     level: Level,
     key: &mut Vec<u8>,
 ) -> Result<(), NoMemory>
-    requires { shown.now ≡ are_visible states.now level pkgs.now }
+    requires shown { shown.now ≡ are_visible states.now level pkgs.now }
+    requires known { AllByRecursion (IsKnownAt states.now pkgs.now) site.now }
     ensures { OnOk result (key.new.items ≡ key.old.items ++ site_key states.now level pkgs.now site.now) }
 {
-    let items = site.items();
     for place in site.places() {
-        add_shown(items, *place, shown, pkgs, states, level, key)?;
+        add_shown(place, shown, pkgs, states, level, key)?;
     }
     key.push(0)?;
     Ok(())
@@ -174,7 +185,8 @@ fn add_atoms(
     level: Level,
     key: &mut Vec<u8>,
 ) -> Result<(), NoMemory>
-    requires { shown.now ≡ are_visible states.now level pkgs.now }
+    requires shown { shown.now ≡ are_visible states.now level pkgs.now }
+    requires known { AllByRecursion (AllByRecursion (IsKnownAt states.now pkgs.now)) sites.now }
     ensures { OnOk result (key.new.items ≡ key.old.items ++ flat_map (site_key states.now level pkgs.now) sites.now) }
 {
     for site in sites {

@@ -9,7 +9,8 @@
 //! - `required`, `class`, `atoms`, `asks`: expressions, atoms and USE items, drawn as gates. `parent` has the literals of the
 //!   parent's flags, `chains` the items of an atom by their flags, `groups` what a group makes of its members.
 //! - `sketch`, `finish`: gates in the making, and made.
-//! - `mentions`, `sites`: what the queries of a package ask about, found once for the package.
+//! - `mentions`, `known`, `sites`: what the queries of a package ask about, and what is known of it in each profile, found once
+//!   for the package.
 //! - `keys`: from these, what tells whether two contexts of a package have one and the same query, without its gates.
 //! - `laws`: laws of the definitions.
 //! - `caller`: the calls as the layers above make them.
@@ -30,6 +31,7 @@ mod groups;
 #[cfg(test)]
 mod key_tests;
 mod keys;
+mod known;
 mod laws;
 mod lower;
 mod lowering;

@@ -1,86 +1,131 @@
 //! What the queries of a package ask about, found once for the package and not in each of its contexts.
 //!
-//! `RequiredFlags::new` costs O(1) for each mention of a flag, `ClassSites::new` besides that for each atom that is no blocker
-//! one look-up of its packages by hash, and a test of each of these. Both keep a number or a reference for what they find.
+//! `RequiredFlags::new` costs the kind of the flag for each mention, `ClassSites::new` besides that for each atom that is no
+//! blocker one look-up of its packages by hash, a test of each of these, and of each that it matches the kinds of the flags that
+//! the atom's items name. Both keep a reference and a kind for each flag, and a number for each package.
 ghost use Rattle.std.specs.Prelude.{◌≡◌, ◌++◌, ◌∷◌, [], map, IfOk, OnOk};
 ghost use Rattle.gv_expr.specs.Dep.{deps};
 ghost use Rattle.gv_expr.specs.DepView.{dep_of};
 ghost use Rattle.gv_expr.specs.Mentioned.{dep_mentions, req_mentions, wanted_atoms};
 ghost use Rattle.gv_expr.specs.Req.{reqs};
-ghost use Rattle.gv_lower.specs.Sites.{matches_at, site_of};
+ghost use Rattle.gv_lower.specs.Sites.{known_of, matches_at, place_site, site_of};
 
+use crate::known::{KnownFlag, known_flags, known_items};
 use crate::mentions::Mentions;
 use gv_atom::{Atom, Block, UseItem};
 use gv_base::NoMemory;
 use gv_expr::{DepExpr, DepTree, UseExpr};
 use gv_facts::{Pkg, Pkgs, matches_pkg};
+use gv_usestate::RuledFlags;
 use gv_visible::PkgIndex;
 use std::alloc::Global;
 use std::marker::Model;
 
-/// The flags that REQUIRED_USE mentions.
+/// The flags of a package that its REQUIRED_USE mentions, and what is known of them in each of some profiles.
 #[derive(Drop)]
 pub struct RequiredFlags<'a> {
+    ruled: &'a RuledFlags<'a>,
+    pkg: &'a Pkg,
     required: &'a UseExpr,
-    flags: Mentions<'a>,
+    flags: Vec<KnownFlag<'a>>,
 }
 
 impl<'a> Model for RequiredFlags<'a> {
-    ghost use Rattle.std.specs.Prelude.{◌≡◌, List};
+    ghost use Rattle.std.specs.Prelude.{◌≡◌, map};
     ghost use Rattle.gv_expr.specs.Mentioned.{req_mentions};
-    ghost use Rattle.gv_expr.specs.Req.{Req, reqs};
-    ghost use Rattle.gv_expr.specs.ReqStored.{reqs_code};
+    ghost use Rattle.gv_expr.specs.Req.{reqs};
+    ghost use Rattle.gv_lower.specs.Sites.{RequiredFlags, coded_flags, known_of};
 
-    ghost Value = { List Req };
+    ghost Value = { RequiredFlags };
 
-    ghost coded = { reqs_code };
+    ghost coded = { coded_flags };
 
-    ghost view = { λ f. f.required.now };
+    ghost view = { λ f. record { profiles = f.ruled.now; of = f.pkg.now; required = f.required.now } };
 
-    ghost invariant = { λ f. f.flags ≡ req_mentions (reqs f.required.now) };
+    ghost invariant = { λ f. f.flags.items ≡ map (known_of f.ruled.now f.pkg.now) (req_mentions (reqs f.required.now)) };
 }
 
 impl<'a> RequiredFlags<'a> {
-    /// Those of this REQUIRED_USE.
-    pub fn new(alloc: Global, required: &'a UseExpr) -> Result<RequiredFlags<'a>, NoMemory>
-        ensures { IfOk result (λ flags. flags ≡ required.now) }
+    /// Those of this REQUIRED_USE of the package.
+    pub fn new(
+        alloc: Global,
+        ruled: &'a RuledFlags<'a>,
+        pkg: &'a Pkg,
+        required: &'a UseExpr,
+    ) -> Result<RequiredFlags<'a>, NoMemory>
+        ensures { IfOk result (λ flags. flags ≡ record { profiles = ruled.now; of = pkg.now; required = required.now }) }
     {
-        let mut flags = Mentions::new(alloc);
-        flags.add_required(required)?;
-        Ok(RequiredFlags { required, flags })
+        let mut mentions = Mentions::new(alloc);
+        mentions.add_required(required)?;
+        let flags = known_flags(alloc, ruled, pkg, mentions.items())?;
+        Ok(RequiredFlags {
+            ruled,
+            pkg,
+            required,
+            flags,
+        })
     }
 
-    pub(crate) fn flags(&self) -> &Mentions<'a>
-        ensures { result.now ≡ req_mentions (reqs self.now) }
+    pub(crate) fn pkg(&self) -> &'a Pkg
+        ensures { result.now ≡ self.now.of }
+    {
+        self.pkg
+    }
+
+    pub(crate) fn flags(&self) -> &[KnownFlag<'a>]
+        ensures { result.now ≡ map (known_of self.now.profiles self.now.of) (req_mentions (reqs self.now.required)) }
     {
         &self.flags
     }
 }
 
-/// An atom's USE items, and the places, ascending, of the packages that it matches.
+/// The place of a package that an atom matches, and the flags of that package that the atom's items name.
+#[derive(Drop)]
+pub(crate) struct PlaceSite<'a> {
+    place: u32,
+    flags: Vec<KnownFlag<'a>>,
+}
+
+impl<'a> Model for PlaceSite<'a> {
+    ghost use Rattle.gv_lower.specs.Sites.{PlaceSite};
+
+    ghost Value = { PlaceSite };
+
+    ghost view = { λ s. record { place = s.place; flags = s.flags.items } };
+}
+
+impl<'a> PlaceSite<'a> {
+    pub(crate) fn place(&self) -> u32
+        ensures { result ≡ self.now.place }
+    {
+        self.place
+    }
+
+    pub(crate) fn flags(&self) -> &[KnownFlag<'a>]
+        ensures { result.now ≡ self.now.flags }
+    {
+        &self.flags
+    }
+}
+
+/// The places, ascending, of the packages that an atom matches.
 #[derive(Drop)]
 pub(crate) struct AtomSite<'a> {
-    items: &'a [UseItem],
-    places: Vec<u32>,
+    places: Vec<PlaceSite<'a>>,
 }
 
 impl<'a> Model for AtomSite<'a> {
-    ghost use Rattle.gv_lower.specs.Sites.{Site};
+    ghost use Rattle.std.specs.Prelude.{List};
+    ghost use Rattle.gv_lower.specs.Sites.{PlaceSite};
 
-    ghost Value = { Site };
+    ghost Value = { List PlaceSite };
 
-    ghost view = { λ s. record { items = s.items.now; places = s.places.items } };
+    ghost view = { λ s. s.places.items };
 }
 
 impl<'a> AtomSite<'a> {
-    pub(crate) fn items(&self) -> &'a [UseItem]
-        ensures { result.now ≡ self.now.items }
-    {
-        self.items
-    }
-
-    pub(crate) fn places(&self) -> &[u32]
-        ensures { result.now ≡ self.now.places }
+    pub(crate) fn places(&self) -> &[PlaceSite<'a>]
+        ensures { result.now ≡ self.now }
     {
         &self.places
     }
@@ -96,30 +141,45 @@ fn matches_at(atom: &Atom, pkgs: &[Pkg], place: u32) -> bool
     }
 }
 
-// A package that matches has the atom's category and name, so no other is looked at.
-fn matched(alloc: Global, atom: &Atom, index: &PkgIndex<'_>) -> Result<Vec<u32>, NoMemory>
-    ensures { IfOk result (λ places. places.items ≡ (site_of index.now atom.now).places) }
+fn place_site<'a>(
+    alloc: Global,
+    ruled: &RuledFlags<'_>,
+    pkgs: &[Pkg],
+    items: &'a [UseItem],
+    place: u32,
+) -> Result<PlaceSite<'a>, NoMemory>
+    ensures { IfOk result (λ site. site ≡ place_site ruled.now pkgs.now items.now place) }
 {
-    let pkgs = index.pkgs().items();
-    let mut places = Vec::new(alloc);
-    for place in index.at(atom.category.bytes(), atom.name.bytes()) {
-        if matches_at(atom, pkgs, *place) {
-            places.push(*place)?;
+    match pkgs.get(place as usize) {
+        Some(pkg) => {
+            let flags = known_items(alloc, ruled, pkg, items)?;
+            Ok(PlaceSite { place, flags })
         }
+        None => Ok(PlaceSite {
+            place,
+            flags: Vec::new(alloc),
+        }),
     }
-    Ok(places)
 }
 
+// A package that matches has the atom's category and name, so no other is looked at.
 fn site_of<'a>(
     alloc: Global,
+    ruled: &RuledFlags<'_>,
     atom: &'a Atom,
     index: &PkgIndex<'_>,
 ) -> Result<AtomSite<'a>, NoMemory>
-    ensures { IfOk result (λ site. site ≡ site_of index.now atom.now) }
+    ensures { IfOk result (λ site. site ≡ site_of ruled.now index.now atom.now) }
 {
+    let pkgs = index.pkgs().items();
     let items = atom.items.items();
-    let places = matched(alloc, atom, index)?;
-    Ok(AtomSite { items, places })
+    let mut places = Vec::new(alloc);
+    for place in index.at(atom.category.bytes(), atom.name.bytes()) {
+        if matches_at(atom, pkgs, *place) {
+            places.push(place_site(alloc, ruled, pkgs, items, *place)?)?;
+        }
+    }
+    Ok(AtomSite { places })
 }
 
 // Adds those of the atoms that are no blockers.
@@ -127,13 +187,14 @@ fn site_of<'a>(
 fn add_sites<'a>(
     alloc: Global,
     items: &'a DepExpr,
+    ruled: &RuledFlags<'_>,
     index: &PkgIndex<'_>,
     atoms: &mut Vec<AtomSite<'a>>,
 ) -> Result<(), NoMemory>
-    ensures { OnOk result (atoms.new.items ≡ atoms.old.items ++ map (site_of index.now) (wanted_atoms (deps items.now))) }
+    ensures { OnOk result (atoms.new.items ≡ atoms.old.items ++ map (site_of ruled.now index.now) (wanted_atoms (deps items.now))) }
 {
     for tree in &items.items {
-        add_sites_of(alloc, tree, index, atoms)?;
+        add_sites_of(alloc, tree, ruled, index, atoms)?;
     }
     Ok(())
 }
@@ -142,31 +203,37 @@ fn add_sites<'a>(
 fn add_sites_of<'a>(
     alloc: Global,
     tree: &'a DepTree,
+    ruled: &RuledFlags<'_>,
     index: &PkgIndex<'_>,
     atoms: &mut Vec<AtomSite<'a>>,
 ) -> Result<(), NoMemory>
-    ensures { OnOk result (atoms.new.items ≡ atoms.old.items ++ map (site_of index.now) (wanted_atoms (deps (dep_of tree.now ∷ [])))) }
+    ensures { OnOk result (atoms.new.items ≡ atoms.old.items ++ map (site_of ruled.now index.now) (wanted_atoms (deps (dep_of tree.now ∷ [])))) }
 {
     match tree {
         DepTree::Leaf { atom } => match atom.block {
             Block::No => {
-                atoms.push(site_of(alloc, atom, index)?)?;
+                atoms.push(site_of(alloc, ruled, atom, index)?)?;
                 Ok(())
             }
             Block::Weak | Block::Strong => Ok(()),
         },
-        DepTree::All { items } | DepTree::Any { items } => add_sites(alloc, items, index, atoms),
-        DepTree::If { items, .. } => add_sites(alloc, items, index, atoms),
+        DepTree::All { items } | DepTree::Any { items } => {
+            add_sites(alloc, items, ruled, index, atoms)
+        }
+        DepTree::If { items, .. } => add_sites(alloc, items, ruled, index, atoms),
     }
 }
 
-/// The flags that a class mentions, and of each of its atoms that is no blocker the USE items and the packages that it
-/// matches, visible or not.
+/// The flags that a class of a package mentions, and for each of its atoms that is no blocker the packages that it matches,
+/// visible or not, each with its flags that the atom's items name; and what is known of all these flags in each of some
+/// profiles.
 #[derive(Drop)]
 pub struct ClassSites<'a> {
+    ruled: &'a RuledFlags<'a>,
+    pkg: &'a Pkg,
     pkgs: &'a Pkgs,
     class: &'a DepExpr,
-    flags: Mentions<'a>,
+    flags: Vec<KnownFlag<'a>>,
     atoms: Vec<AtomSite<'a>>,
 }
 
@@ -174,31 +241,36 @@ impl<'a> Model for ClassSites<'a> {
     ghost use Rattle.std.specs.Prelude.{◌≡◌, map};
     ghost use Rattle.gv_expr.specs.Dep.{deps};
     ghost use Rattle.gv_expr.specs.Mentioned.{dep_mentions, wanted_atoms};
-    ghost use Rattle.gv_lower.specs.Sites.{ClassSites, coded_sites, site_of};
+    ghost use Rattle.gv_lower.specs.Sites.{ClassSites, coded_sites, known_of, site_of};
 
     ghost Value = { ClassSites };
 
     ghost coded = { coded_sites };
 
-    ghost view = { λ s. record { pkgs = s.pkgs.now; class = s.class.now } };
+    ghost view = { λ s. record { profiles = s.ruled.now; of = s.pkg.now; pkgs = s.pkgs.now; class = s.class.now } };
 
-    ghost invariant = { λ s. (s.flags ≡ dep_mentions (deps s.class.now)) × (s.atoms.items ≡ map (site_of s.pkgs.now) (wanted_atoms (deps s.class.now))) };
+    ghost invariant = { λ s. (s.flags.items ≡ map (known_of s.ruled.now s.pkg.now) (dep_mentions (deps s.class.now))) × (s.atoms.items ≡ map (site_of s.ruled.now s.pkgs.now) (wanted_atoms (deps s.class.now))) };
 }
 
 impl<'a> ClassSites<'a> {
-    /// Those of this class among the packages of the index.
+    /// Those of this class of the package among the packages of the index.
     pub fn new(
         alloc: Global,
+        ruled: &'a RuledFlags<'a>,
+        pkg: &'a Pkg,
         index: &PkgIndex<'a>,
         class: &'a DepExpr,
     ) -> Result<ClassSites<'a>, NoMemory>
-        ensures { IfOk result (λ sites. sites ≡ record { pkgs = index.now; class = class.now }) }
+        ensures { IfOk result (λ sites. sites ≡ record { profiles = ruled.now; of = pkg.now; pkgs = index.now; class = class.now }) }
     {
-        let mut flags = Mentions::new(alloc);
-        flags.add_class(class)?;
+        let mut mentions = Mentions::new(alloc);
+        mentions.add_class(class)?;
+        let flags = known_flags(alloc, ruled, pkg, mentions.items())?;
         let mut atoms = Vec::new(alloc);
-        add_sites(alloc, class, index, &mut atoms)?;
+        add_sites(alloc, class, ruled, index, &mut atoms)?;
         Ok(ClassSites {
+            ruled,
+            pkg,
             pkgs: index.pkgs(),
             class,
             flags,
@@ -206,14 +278,20 @@ impl<'a> ClassSites<'a> {
         })
     }
 
-    pub(crate) fn flags(&self) -> &Mentions<'a>
-        ensures { result.now ≡ dep_mentions (deps self.now.class) }
+    pub(crate) fn pkg(&self) -> &'a Pkg
+        ensures { result.now ≡ self.now.of }
+    {
+        self.pkg
+    }
+
+    pub(crate) fn flags(&self) -> &[KnownFlag<'a>]
+        ensures { result.now ≡ map (known_of self.now.profiles self.now.of) (dep_mentions (deps self.now.class)) }
     {
         &self.flags
     }
 
     pub(crate) fn atoms(&self) -> &[AtomSite<'a>]
-        ensures { result.now ≡ map (site_of self.now.pkgs) (wanted_atoms (deps self.now.class)) }
+        ensures { result.now ≡ map (site_of self.now.profiles self.now.pkgs) (wanted_atoms (deps self.now.class)) }
     {
         &self.atoms
     }

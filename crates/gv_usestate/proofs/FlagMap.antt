@@ -66,7 +66,7 @@ abbrev pub Holds : Entries → (came rules : List Rule) → Type 0
 Holds entries came rules =
     (flag : List ℕ) → map (slice_get rules) (places_at entries flag) ≡ (if list_any (names_flag flag) came then map Some (filter (names_flag flag) rules) else [])
 
-flipped : (a b : List ℕ) → bytes_eq a b ≡ bytes_eq b a
+pub flipped : (a b : List ℕ) → bytes_eq a b ≡ bytes_eq b a
 flipped a b = two (bytes_eq a b) (bytes_eq b a) (turned a b) (turned b a)
   where
     turned : (c d : List ℕ) → bytes_eq c d ≡ true → bytes_eq d c ≡ true

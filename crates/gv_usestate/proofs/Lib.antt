@@ -1,3 +1,5 @@
 mod Expanded
 mod FlagMap
 mod RulesAtPlaces
+mod FlagSetLemmas
+mod KindLaw

@@ -1,2 +1,4 @@
 pub mod FlagPlaces
+pub mod FlagSets
+pub mod Kinds
 pub mod RulesInTurn

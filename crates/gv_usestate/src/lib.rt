@@ -8,6 +8,7 @@
 //! - `restricted`: where stable restrictions apply.
 //! - `states`: the state of a flag, by the rules that name it and no others.
 //! - `profile_states`: a profile with these rules in a hash map, for many flags of many packages.
+//! - `ruled`: what is known of a flag's state in every one of some profiles.
 //!
 //! A word is compared in O(bytes). `state` costs O(log n) comparisons for n names of flags in rules, O(the package's
 //! flags and keywords), O(the words of IUSE_IMPLICIT), O(the names of USE_EXPAND and USE_EXPAND_UNPREFIXED), for each
@@ -19,6 +20,7 @@
 mod flags;
 mod profile_states;
 mod restricted;
+mod ruled;
 mod sources;
 mod states;
 #[cfg(test)]
@@ -27,4 +29,5 @@ mod tests;
 pub use flags::effective;
 pub use gv_facts::FlagState;
 pub use profile_states::ProfileStates;
+pub use ruled::{FlagKind, RuledFlags, kind_law};
 pub use states::{state, state_of};

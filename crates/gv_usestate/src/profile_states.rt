@@ -2,12 +2,16 @@
 //!
 //! `new` costs O(1) on average for each rule, besides its look-up in the list of rules. `state` takes no memory, and costs
 //! what `state` of the package, the profile, the level and the flag does, with a look-up by hash in place of comparisons of
-//! names.
-ghost use Rattle.std.specs.Prelude.{◌≡◌, IfOk};
+//! names. `state_as` is told what is known of the flag: a plain one costs O(1), and one of IUSE the look-up and the rules that
+//! name it.
+ghost use Rattle.std.specs.Prelude.{◌≡◌, false, IfOk};
+ghost use Rattle.gv_base.specs.Order.{has_text};
 ghost use Rattle.gv_facts.specs.States.{state};
 ghost use Rattle.gv_usestate.specs.FlagPlaces.{AreRulesOf, HasRules};
+ghost use Rattle.gv_usestate.specs.Kinds.{IsKind};
 
-use crate::sources::is_effective;
+use crate::ruled::FlagKind;
+use crate::sources::{is_effective, is_implicit};
 use crate::states::effective_state;
 use gv_base::NoMemory;
 use gv_facts::{FlagState, Level, Pkg, Profile, Rules};
@@ -80,5 +84,30 @@ impl<'a> ProfileStates<'a> {
             return FlagState::Absent;
         }
         effective_state(pkg, profile, level, flag, self.at(flag))
+    }
+
+    // The state of a flag that the profile makes effective, or doesn't.
+    fn implicit_state(&self, pkg: &Pkg, level: Level, flag: &[u8]) -> FlagState
+        requires { has_text pkg.now.iuse flag.now ≡ false }
+        ensures { result ≡ state pkg.now self.now level flag.now }
+    {
+        let profile = self.profile();
+        if !is_implicit(profile, flag) {
+            return FlagState::Absent;
+        }
+        effective_state(pkg, profile, level, flag, self.at(flag))
+    }
+
+    /// The same of a flag of which is known how far its state rests on the profile.
+    #[tactic(auto, using(crate::proofs::KindLaw::plain_free))]
+    pub fn state_as(&self, kind: FlagKind, pkg: &Pkg, level: Level, flag: &[u8]) -> FlagState
+        requires { IsKind self.now pkg.now flag.now kind }
+        ensures { result ≡ state pkg.now self.now level flag.now }
+    {
+        match kind {
+            FlagKind::Plain => FlagState::Free,
+            FlagKind::Listed => { effective_state(pkg, self.profile(), level, flag, self.at(flag)) }
+            FlagKind::Other => self.implicit_state(pkg, level, flag),
+        }
     }
 }

@@ -1,10 +1,11 @@
 //! The state of a flag (PMS chapter 5).
 ghost use Rattle.std.specs.Prelude.{◌≡◌, ◌&&◌, ◌||◌, true, false, fold};
+ghost use Rattle.std.specs.List.{list_any};
 ghost use Rattle.gv_facts.specs.Effective.{is_effective};
-ghost use Rattle.gv_facts.specs.States.{has_effect, state};
+ghost use Rattle.gv_facts.specs.States.{has_effect, is_restricted, state};
 ghost use Rattle.gv_facts.specs.declared.rules.Effect.TheVariants.{Force, Mask};
 ghost use Rattle.gv_usestate.specs.FlagPlaces.{AreRulesOf};
-ghost use Rattle.gv_usestate.specs.RulesInTurn.{counts, behind, behind_at};
+ghost use Rattle.gv_usestate.specs.RulesInTurn.{counts, behind, behind_at, is_stable_at};
 
 use crate::restricted::is_restricted;
 use crate::sources::is_effective;
@@ -62,6 +63,34 @@ fn effects_at(rules: &[Rule], places: &[u32], pkg: &Pkg, restricted: bool) -> Ef
     Effects { mask, force }
 }
 
+// Whether a rule at this place counts only where stable restrictions apply.
+fn is_stable_at(rules: &[Rule], place: u32) -> bool
+    ensures { result ≡ is_stable_at rules.now place }
+{
+    match rules.get(place as usize) {
+        Some(rule) => rule.stable,
+        None => false,
+    }
+}
+
+fn has_stable(rules: &[Rule], places: &[u32]) -> bool
+    ensures { result ≡ list_any (is_stable_at rules.now) places.now }
+{
+    for place in places {
+        if is_stable_at(rules, *place) {
+            return true;
+        }
+    }
+    false
+}
+
+// Whether stable restrictions apply, asked only where a rule at these places counts only then.
+fn restricts(rules: &[Rule], places: &[u32], pkg: &Pkg, profile: &Profile, level: Level) -> bool
+    ensures { result ≡ (list_any (is_stable_at rules.now) places.now && is_restricted pkg.now profile.now level) }
+{
+    has_stable(rules, places) && is_restricted(pkg, profile, level)
+}
+
 // What is on behind the rules that name the flag.
 fn flag_effects(pkg: &Pkg, profile: &Profile, level: Level, flag: &[u8], places: &[u32]) -> Effects
     requires { AreRulesOf profile.now.rules flag.now places.now }
@@ -74,8 +103,9 @@ fn flag_effects(pkg: &Pkg, profile: &Profile, level: Level, flag: &[u8], places:
             force: false,
         };
     }
-    let restricted = is_restricted(pkg, profile, level);
-    effects_at(profile.rules.items(), places, pkg, restricted)
+    let rules = profile.rules.items();
+    let restricted = restricts(rules, places, pkg, profile, level);
+    effects_at(rules, places, pkg, restricted)
 }
 
 /// The state of an effective flag, by the places of the rules that name it.

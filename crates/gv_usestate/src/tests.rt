@@ -1,9 +1,12 @@
 //! Effective flags and states on records made by hand from PMS chapters 5 and 11. Each line of a table is one case.
-use crate::{FlagState, ProfileStates, effective, state};
+ghost use Rattle.std.specs.Prelude.{IfSome};
+ghost use Rattle.gv_usestate.specs.Kinds.{IsOneOf};
+
+use crate::{FlagKind, FlagState, ProfileStates, RuledFlags, effective, kind_law, state};
 use gv_atom::{Atom, read_atom};
 use gv_base::{Text, Texts, words_of};
 use gv_facts::{
-    Eapi, Effect, Level, Masks, Pkg, Profile, Rule, Rules, Status, ValueList, ValueLists,
+    Eapi, Effect, Level, Masks, Pkg, Profile, Profiles, Rule, Rules, Status, ValueList, ValueLists,
 };
 use gv_version::read_version;
 use std::alloc::Global;
@@ -116,6 +119,58 @@ fn state_text(state: FlagState) -> &'static str {
     }
 }
 
+fn kind_text(kind: FlagKind) -> &'static str {
+    match kind {
+        FlagKind::Plain => "plain",
+        FlagKind::Listed => "listed",
+        FlagKind::Other => "other",
+    }
+}
+
+fn first(profiles: &[Profile]) -> Option<&Profile>
+    ensures { IfSome result (λ profile. IsOneOf profiles.now profile.now) }
+{
+    match profiles {
+        [profile, ..] => Some(profile),
+        [] => None,
+    }
+}
+
+// The state of the flag, by what is known of it in each of the profiles.
+fn state_by_kind(
+    ruled: &RuledFlags<'_>,
+    states: &ProfileStates<'_>,
+    pkg: &Pkg,
+    level: Level,
+    flag: &[u8],
+) -> FlagState
+    requires { IsOneOf ruled.now states.now }
+{
+    kind_law();
+    let kind = ruled.kind(pkg, flag);
+    states.state_as(kind, pkg, level, flag)
+}
+
+// The states of the flag, by what is known of it, are the ones that are wanted.
+fn has_states_by_kind<R: Abort>(
+    rt: &R,
+    alloc: Global,
+    profiles: &Profiles,
+    pkg: &Pkg,
+    flag: &Text,
+    want: &str,
+) {
+    let ruled = RuledFlags::new(alloc, profiles.items()).expect(rt, "memory");
+    let Some(profile) = first(profiles.items()) else {
+        return rt.abort();
+    };
+    let states = ProfileStates::new(alloc, profile).expect(rt, "memory");
+    let flag = flag.bytes();
+    let stable = state_text(state_by_kind(&ruled, &states, pkg, Level::Stable, flag));
+    let testing = state_text(state_by_kind(&ruled, &states, pkg, Level::Testing, flag));
+    assert_eq!(rt; want.split_once(' '), Some((stable, testing)));
+}
+
 // The states of the flag at stable and at testing.
 fn has_states<R: Abort>(
     rt: &R,
@@ -136,6 +191,12 @@ fn has_states<R: Abort>(
     let stable = state_text(states.state(&pkg, Level::Stable, flag.bytes()));
     let testing = state_text(states.state(&pkg, Level::Testing, flag.bytes()));
     assert_eq!(rt; want.split_once(' '), Some((stable, testing)));
+    // And by what is known of the flag.
+    let mut profiles = Profiles::new(alloc);
+    profiles
+        .add(self::profile(rt, alloc, rules))
+        .expect(rt, "memory");
+    has_states_by_kind(rt, alloc, &profiles, &pkg, &flag, want);
 }
 
 /// Keywords, rules in order, and the states of the flag `a` of x/y-1.2 at stable and at testing.
@@ -204,5 +265,34 @@ fn flags_of_the_four_sources_are_effective(rt: HostRuntime) {
     }
     for flag in ABSENT.split(' ') {
         has_states(&rt, alloc, "amd64", "", flag, "absent absent");
+    }
+}
+
+/// The rules of a profile, a flag, and what is known of it for x/y with b and a in IUSE.
+const KINDS: &str = "\
+;a;plain
+force a;a;listed
+mask x/z a,force b;a;listed
+force b,mask c;a;plain
+stable.mask -a;a;listed
+;c;other
+force c;c;other
+;prefix;other";
+
+#[test]
+fn a_flag_of_iuse_that_no_rule_names_is_plain(rt: HostRuntime) {
+    let alloc = rt.alloc();
+    let pkg = pkg(&rt, alloc, "amd64", "b a");
+    for line in KINDS.lines() {
+        let (rules, rest) = line.split_once(';').expect(&rt, "rules");
+        let (flag, want) = rest.split_once(';').expect(&rt, "a flag");
+        let mut profiles = Profiles::new(alloc);
+        profiles.add(profile(&rt, alloc, "")).expect(&rt, "memory");
+        profiles
+            .add(profile(&rt, alloc, rules))
+            .expect(&rt, "memory");
+        let ruled = RuledFlags::new(alloc, profiles.items()).expect(&rt, "memory");
+        let kind = kind_text(ruled.kind(&pkg, flag.as_bytes()));
+        assert!(&rt; kind == want, "{line}");
     }
 }

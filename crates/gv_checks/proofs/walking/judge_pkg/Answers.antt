@@ -5,7 +5,7 @@ use Rattle.gv_checks.specs.Cases.{case_at}
 use Rattle.gv_checks.specs.Keys.{AreSitesOf}
 use Rattle.gv_checks.specs.Progress.{Judges}
 use Rattle.gv_checks.specs.Queries.{case_queries}
-use Rattle.gv_checks.proofs.ViewLemmas.{as_seen}
+use Rattle.gv_checks.proofs.ViewLemmas.{as_seen, one_of}
 use Rattle.gv_checks.proofs.WalkLemmas.{all_seen, profile_end, profile_err, profile_next, profile_passed, seen_at}
 use Rattle.gv_checks.proofs.walking.judge_pkg.Goals.{in-Some+in-Ok, in_default}
 use Rattle.gv_checks.proofs.walking.judge_pkg.Goals as goal
@@ -16,7 +16,14 @@ judge_case-requires-clause-view g c =
     (seen_at c.args.repo.now.pkgs c.args.repo.now.profiles c.args.views.now c.loop-view.view-index c.view-item.result c.requires.views c.loop-view-test.true c.view-item.is).pkgs_are c.profile.ensures
 
 pub judge_case-requires-clause-sites : goal.judge_case-requires-clause-sites
-judge_case-requires-clause-sites g c = subst (λ ps. AreSitesOf ps c.args.body.now c.in_ok-sites.sites) c.requires.index c.in_ok-sites.ensures
+judge_case-requires-clause-sites g c =
+    let at = seen_at c.args.repo.now.pkgs c.args.repo.now.profiles c.args.views.now c.loop-view.view-index c.view-item.result c.requires.views c.loop-view-test.true c.view-item.is in
+    record {
+      profiles = c.args.repo.now.profiles;
+      one = one_of c.args.repo.now.pkgs c.args.repo.now.profiles c.loop-view.view-index c.view-item.result at c.profile.result.now c.profile.ensures;
+      are = subst (λ ps. AreSitesOf ps c.args.pkg.now c.args.repo.now.pkgs c.args.body.now c.in_ok-sites.sites) c.requires.ruled
+          (subst (λ ps. AreSitesOf c.args.ruled.now c.args.pkg.now ps c.args.body.now c.in_ok-sites.sites) c.requires.index c.in_ok-sites.ensures);
+    }
 
 pub returns-in-Err-clause-judges : goal.returns-in-Err-clause-judges
 returns-in-Err-clause-judges g c =

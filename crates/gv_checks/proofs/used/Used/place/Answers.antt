@@ -4,11 +4,11 @@ use Rattle.gv_checks.proofs.used.Used.place.Goals as goal
 
 pub returns-in-Some-clause-uses : goal.returns-in-Some-clause-uses
 returns-in-Some-clause-uses g c =
-    old_place c.circuit_law.ensures c.args.budget c.args.given.now c.args.gates.now c.inputs-inputs.ensures.formed c.args.self.now c.args.steps.now c.requires.used c.bytes.result.now (c.bytes.ensures ∙ c.in_ok-query.ensures)
+    old_place c.circuit_law.ensures c.args.budget c.args.given.now c.args.gates.now c.inputs-inputs.ensures.formed c.args.self.now c.args.steps.now c.requires.used c.bytes.result.now (c.bytes.ensures ∙ c.requires.bytes)
     c.in-Some.number c.in-Some.ensures.finds
 
 pub returns-clause-uses : goal.returns-clause-uses
 returns-clause-uses g c =
-    new_place c.circuit_law.ensures c.args.budget c.args.given.now c.args.gates.now c.inputs-inputs.ensures.formed c.args.self.now c.args.steps.now c.requires.used c.bytes.result.now (c.bytes.ensures ∙ c.in_ok-query.ensures)
-    c.keep.new.self c.answer_within.new.steps c.in_ok-claim.field-0.claim c.in_ok-claim.field-0.reused c.in_ok-query.query c.in_ok-bytes.bytes (length c.as_slice-place.result.now) c.in_ok-query.ensures c.in_default.ensures.finds c.in_ok-bytes.ensures.sized
+    new_place c.circuit_law.ensures c.args.budget c.args.given.now c.args.gates.now c.inputs-inputs.ensures.formed c.args.self.now c.args.steps.now c.requires.used c.bytes.result.now (c.bytes.ensures ∙ c.requires.bytes)
+    c.keep.new.self c.answer_within.new.steps c.in_ok-claim.field-0.claim c.in_ok-claim.field-0.reused c.args.query.now c.in_ok-bytes.bytes (length c.as_slice-place.result.now) c.requires.bytes c.in_default.ensures.finds c.in_ok-bytes.ensures.sized
     c.in_ok-bytes.ensures.bytes c.in_ok-claim.ensures.answered c.in_ok-keep.ensures.certs c.in_ok-keep.ensures.found c.in_ok-claim.ensures.counted c.in_ok-claim.ensures.reused (ap length c.as_slice-place.ensures.value)
