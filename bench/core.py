@@ -6,13 +6,16 @@
     core.py solve      the solver on a question of 42 inputs, on 10,000 small ones, and on a random one of 60 inputs
     core.py large [CHECKOUT ..]   the solver on random questions of 80 to 400 inputs, 20 seeds each, beside the solver of
                        other checkouts and those of Debian's packages, in one run
-    core.py beside PROGRAM ..     the same of programs that were built of `solve`'s source before
+    core.py beside PROGRAM .. [--seconds N] [--sizes INPUTS,GROUPS ..]
+                       the same of programs that were built of `solve`'s source before; with other limits and sizes
 
 It copies the crates and a program that calls them into a folder of its own, has `rt run` prove and build that, runs it
 and prints what it says: microseconds, or for `solve` how many questions were refuted, found and spent. The questions
 are the same at each run. `large` prints a row for each size and solver: how many of the 20 ended within five seconds
-of the processor, their median and greatest time of the processor, median conflicts, and for gvis median steps of the log.
+of the processor, their median and greatest time of the processor, median conflicts, and for gvis median steps of the log;
+and of the questions that all programs of gvis ended, the seconds and the steps together.
 """
+import argparse
 import os
 import random
 import re
@@ -311,11 +314,11 @@ SIZES = (
 )
 
 
-def ended(command, given=None):
-    """What a program says, and its time of the processor; None where it doesn't end within the limit."""
+def ended(command, limit, given=None):
+    """What a program says, and its time of the processor; None where it doesn't end within so many seconds."""
 
     def limited():
-        resource.setrlimit(resource.RLIMIT_CPU, (LIMIT, LIMIT))
+        resource.setrlimit(resource.RLIMIT_CPU, (limit, limit))
 
     before = resource.getrusage(resource.RUSAGE_CHILDREN)
     done = subprocess.run(command, input=given, capture_output=True, preexec_fn=limited)
@@ -326,8 +329,8 @@ def ended(command, given=None):
     return done.stdout.decode() + done.stderr.decode(), took
 
 
-def by_gvis(program, gates):
-    out = ended([program], question(gates))
+def by_gvis(program, gates, limit):
+    out = ended([program], limit, question(gates))
     if out is None:
         return None
     word = out[0].split()
@@ -335,11 +338,11 @@ def by_gvis(program, gates):
     return "found" if word[3] == "1" else "refuted" if word[1] == "1" else "spent", out[1], None, steps - on
 
 
-def by_others(solver, gates):
+def by_others(solver, gates, limit):
     with tempfile.NamedTemporaryFile("w", suffix=".cnf") as f:
         f.write(dimacs(gates))
         f.flush()
-        out = ended([solver, *(["-v"] if solver == "picosat" else []), f.name])
+        out = ended([solver, *(["-v"] if solver == "picosat" else []), f.name], limit)
     if out is None:
         return None
     conflicts = re.search(r"conflicts *: *(\d+)|(\d+) conflicts", out[0])
@@ -358,19 +361,21 @@ def large(folder, checkouts):
     compare(programs + [("gvis", build(os.path.join(folder, "own"), SOLVE, proof, deps))])
 
 
-def compare(programs):
-    solvers = [(name, lambda gates, program=program: by_gvis(program, gates)) for name, program in programs]
+def compare(programs, sizes=SIZES, limit=LIMIT):
+    solvers = [(name, lambda gates, program=program: by_gvis(program, gates, limit)) for name, program in programs]
     for solver in ("minisat", "picosat"):
         if shutil.which(solver):
-            solvers.append((solver, lambda gates, solver=solver: by_others(solver, gates)))
+            solvers.append((solver, lambda gates, solver=solver: by_others(solver, gates, limit)))
     print("| Inputs, groups | Solver | Ended | Found | Median, greatest seconds | Conflicts | Steps |")
     print("|---|---|---|---|---|---|---|")
-    for inputs, groups in SIZES:
+    for inputs, groups in sizes:
         draw = random.Random(inputs * 10_000 + groups)
         questions = [random_groups(draw, inputs, groups) for _ in range(20)]
-        said = {}
+        said, own = {}, {}
         for name, solve in solvers:
             answers = [solve(gates) for gates in questions]
+            if name in dict(programs):
+                own[name] = answers
             for k, answer in enumerate(answers):
                 if answer and said.setdefault(k, answer[0]) != answer[0]:
                     print(f"question {k} of {inputs} inputs: {name} says {answer[0]} and another {said[k]}")
@@ -380,6 +385,10 @@ def compare(programs):
             took = f"{median(times):.3f}, {max(times):.3f}" if times else "-"
             found = sum(a[0] == "found" for a in there)
             print(f"| {inputs}, {groups} | {name} | {len(there)} | {found} | {took} | {median(conflicts)} | {median(steps)} |", flush=True)
+        both = [k for k in range(len(questions)) if all(answers[k] for answers in own.values())]
+        for name, answers in own.items():
+            seconds, steps = (sum(answers[k][n] for k in both) for n in (1, 3))
+            print(f"{inputs}, {groups}: {name}: {len(both)} that all ended: {seconds:.2f} seconds, {steps} steps", flush=True)
 
 
 def main(what, checkouts):
@@ -394,7 +403,12 @@ def main(what, checkouts):
         elif what == "large":
             large(folder, checkouts)
         elif what == "beside":
-            compare([(os.path.basename(program), program) for program in checkouts])
+            options = argparse.ArgumentParser()
+            options.add_argument("--seconds", type=int, default=LIMIT)
+            options.add_argument("--sizes", nargs="+", type=lambda size: tuple(map(int, size.split(","))), default=SIZES)
+            options.add_argument("programs", nargs="+")
+            given = options.parse_args(checkouts)
+            compare([(os.path.basename(program), program) for program in given.programs], given.sizes, given.seconds)
         else:
             deps = "gv_base gv_logic gv_encode gv_refute gv_solver anyhow"
             program = build(folder, SOLVE, {"proofs/main/Invariants.antt": SOLVE_PROOF}, deps)

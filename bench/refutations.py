@@ -1,10 +1,11 @@
 #!/usr/bin/env python3
 """Has other programs judge the refutations of gvis's solver.
 
-    refutations.py [FOLDER]
+    refutations.py [FOLDER [PROGRAM]]
 
 Solves the twenty pairs and random questions of 40 to 100 inputs, and writes the clauses of each that is refuted as
-DIMACS and its log as DRAT and as LRAT (into FOLDER, else into one that is removed again). The LRAT is judged by the
+DIMACS and its log as DRAT and as LRAT (into FOLDER, else into one that is removed again). PROGRAM, if it is named, was
+built of the source below before. The LRAT is judged by the
 checker that is proved in ACL2 (Debian's packages acl2 and acl2-books), the DRAT by `drat-trim`, each where it is on
 PATH. Besides, each step is judged here by unit propagation over all clauses, without the log's hints, and the hints one
 by one as LRAT wants them; and `minisat` says whether the clauses are unsatisfiable. ACL2's checker is also given a log
@@ -190,11 +191,11 @@ def judge(folder, name, dimacs, steps):
     return not any(text.isupper() or "NOT" in text or "A STEP" in text or "SATISFIABLE" in text for text in told)
 
 
-def main(folder):
+def main(folder=None, program=None):
     deps = "gv_base gv_logic gv_encode gv_refute gv_solver anyhow"
     good = True
     with tempfile.TemporaryDirectory() as made:
-        program = build(made, SOURCE, {"proofs/main/Invariants.antt": core.SOLVE_PROOF}, deps)
+        program = program or build(made, SOURCE, {"proofs/main/Invariants.antt": core.SOLVE_PROOF}, deps)
         questions = [("pairs", core.pairs())]
         for inputs, groups in ((40, 172), (60, 258), (80, 344), (100, 430)):
             draw = random.Random(inputs)
@@ -216,6 +217,6 @@ def main(folder):
 
 
 if __name__ == "__main__":
-    if len(sys.argv) > 2 or sys.argv[1:2] == ["--help"]:
+    if len(sys.argv) > 3 or sys.argv[1:2] == ["--help"]:
         sys.exit(__doc__)
-    sys.exit(main(sys.argv[1] if len(sys.argv) == 2 else None))
+    sys.exit(main(*sys.argv[1:]))
