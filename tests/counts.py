@@ -27,7 +27,8 @@ QUERIES = 6
 MOST = 1.5
 # Each is called once where a query is solved in a fresh scan, and once where one is lowered: counted is the first that the
 # compiler left standing, since it may write a function into its one caller.
-SOLVES = ("gv_solver::solver::search", "gv_solver::solver::solve", "gv_query::asking::ask", "gv_encode::encoding::encode")
+SOLVES = ("gv_solver::solver::search", "gv_solver::solver::solve", "gv_query::asking::ask", "gv_encode::encoding::encode",
+          "gv_query::records::backed_among")
 LOWERS = ("gv_lower::finish::finish",)
 TAKES = ("rattle_alloc", "rattle_realloc")
 EMPTY = hashlib.md5(b"").hexdigest()
