@@ -132,7 +132,7 @@ module _ (es fs : List (Bytes × Queries)) (name query : List ℕ) (is : name �
   pub length_added : (number : ℕ)
       → ((q : List ℕ) → numbers_in queries q ≡ (if bytes_eq q query then numbers_among (lookup (has_bytes name) es) q ++ number ∷ [] else numbers_among (lookup (has_bytes name) es) q))
       → (q : List ℕ) → numbers_among (lookup (has_bytes (length_key q)) fs) q
-        ≡ (if bytes_eq q query then numbers_among (lookup (has_bytes (length_key q)) es) q ++ number ∷ [] else numbers_among (lookup (has_bytes (length_key q)) es) q)
+      ≡ (if bytes_eq q query then numbers_among (lookup (has_bytes (length_key q)) es) q ++ number ∷ [] else numbers_among (lookup (has_bytes (length_key q)) es) q)
   length_added number added q = ap (λ o. numbers_among o q) (sets (length_key q)) ∙ by (bytes_eq (length_key q) name) refl
     where
       by : (s : Bool) → bytes_eq (length_key q) name ≡ s → numbers_among (if s then Some queries else lookup (has_bytes (length_key q)) es) q
