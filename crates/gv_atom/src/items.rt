@@ -27,7 +27,9 @@ pub enum Ask {
 /// One item of an atom's brackets.
 #[derive(Drop)]
 pub struct UseItem {
+    /// The name alone, without signs and default.
     pub flag: Text,
+    /// What the signs around the name say: `-` or `!` in front, `=` or `?` behind.
     pub ask: Ask,
     /// What counts where the candidate has no such flag: `(+)`, `(-)`, or nothing.
     pub missing: Option<bool>,

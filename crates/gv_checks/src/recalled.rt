@@ -38,6 +38,7 @@ pub enum RecallFault {
     NotBacked { query: u32 },
     /// A query has more than 4,096 flags or weighs more than 2,000,000: CATEGORY/PF of its package, and the limit.
     Limit { place: Text, number: u64 },
+    /// Memory was wanted and not given, at whichever query.
     NoMemory,
 }
 

@@ -16,14 +16,14 @@ use std::alloc::Global;
 pub(crate) enum Begun {
     /// Sets one path.
     Put {
-        /// The path.
+        /// The second word of the line, which is a path.
         path: Text,
         /// How many bytes the file has.
         size: u32,
     },
     /// Removes one path.
     Cut {
-        /// The path.
+        /// The second word of the line, which is a path.
         path: Text,
     },
     /// Writes the report.

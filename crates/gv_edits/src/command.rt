@@ -18,14 +18,14 @@ use std::alloc::Global;
 pub enum Command {
     /// Sets one path.
     Put {
-        /// The path.
+        /// The second word of the command's line: a path of at most `MAX_PATH_BYTES` bytes.
         path: Text,
         /// The bytes of the file.
         bytes: Text,
     },
     /// Removes one path.
     Cut {
-        /// The path.
+        /// The second word of the command's line: a path of at most `MAX_PATH_BYTES` bytes.
         path: Text,
     },
     /// Writes the report of the files with the edits so far.

@@ -12,14 +12,14 @@ pub const MAX_PATH_BYTES: u64 = 4096;
 pub enum Edit {
     /// Sets one path.
     Put {
-        /// The path.
+        /// From the top of the files, as in `metadata/md5-cache/CATEGORY/PF`.
         path: Text,
         /// The bytes of the file.
         bytes: Text,
     },
     /// Removes one path. A path that isn't there changes nothing.
     Cut {
-        /// The path.
+        /// From the top of the files, as in `metadata/md5-cache/CATEGORY/PF`.
         path: Text,
     },
 }

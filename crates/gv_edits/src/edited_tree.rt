@@ -13,7 +13,7 @@ use std::alloc::Global;
 pub struct EditedTree<'a, T: Tree> {
     /// The tree below.
     pub tree: &'a mut T,
-    /// The edits.
+    /// What lies over it: of edits of one path the last one counts.
     pub edits: &'a Edits,
 }
 

@@ -49,7 +49,7 @@ fn note(errors: &mut EntryErrors, detail: Text) -> Result<(), NoMemory>
     Ok(())
 }
 
-/// Notes this text.
+/// Adds an error with this text as its detail.
 pub fn note_text(alloc: Global, text: &[u8], errors: &mut EntryErrors) -> Result<(), NoMemory>
     ensures { OnOk result (errors.new ≡ errors.old ++ errors_of (text.now ∷ [])) }
 {

@@ -10,7 +10,9 @@ use std::marker::Model;
 /// An eclass that an entry names, and the MD5 of its file.
 #[derive(Drop)]
 pub struct Eclass {
+    /// The name of its file, without `.eclass`.
     pub name: Text,
+    /// What stands behind the name in `_eclasses_`; whether the file has it isn't asked here.
     pub digest: [u8; 16],
 }
 
@@ -18,17 +20,24 @@ pub struct Eclass {
 /// all are where the EAPI isn't supported.
 #[derive(Drop)]
 pub struct Body {
+    /// The value of REQUIRED_USE.
     pub required: Option<UseExpr>,
+    /// The value of DEPEND.
     pub depend: Option<DepExpr>,
+    /// The value of BDEPEND; empty before EAPI 7.
     pub bdepend: Option<DepExpr>,
+    /// The value of RDEPEND.
     pub rdepend: Option<DepExpr>,
+    /// The value of PDEPEND.
     pub pdepend: Option<DepExpr>,
+    /// The value of IDEPEND; empty before EAPI 8.
     pub idepend: Option<DepExpr>,
 }
 
 /// What is wrong with an entry, as it is told.
 #[derive(Drop)]
 pub struct EntryError {
+    /// The key, and what is wrong with its value: as `SLOT: bad`, `IUSE: word 2`, `DEPEND: token 3: bad atom`.
     pub detail: Text,
 }
 
@@ -42,6 +51,7 @@ pub struct Entry {
     pub eclasses: Option<Eclasses>,
     /// The package; `None` exactly where EAPI, SLOT, KEYWORDS and IUSE aren't all those of a package.
     pub head: Option<Pkg>,
+    /// Read whether or not the entry is a package.
     pub body: Body,
     /// In the order EAPI, SLOT, KEYWORDS, IUSE, REQUIRED_USE, DEPEND, BDEPEND, RDEPEND, PDEPEND, IDEPEND.
     pub errors: EntryErrors,
@@ -137,7 +147,7 @@ impl Entry {
     }
 }
 
-/// A list of eclasses.
+/// Eclasses in the order in which `_eclasses_` names them.
 #[derive(Drop)]
 pub struct Eclasses {
     items: Vec<Eclass>,
@@ -190,7 +200,7 @@ impl Eclasses {
     }
 }
 
-/// A list of errors.
+/// Errors in the order in which they were added.
 #[derive(Drop)]
 pub struct EntryErrors {
     items: Vec<EntryError>,

@@ -43,6 +43,7 @@ pub enum DepTree {
 #[cycle(dep)]
 #[derive(Drop)]
 pub struct DepExpr {
+    /// The top trees alone: what stands in a group is in its tree.
     pub items: Vec<DepTree>,
     depth: u32,
 }

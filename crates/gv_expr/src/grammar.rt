@@ -22,14 +22,20 @@ pub fn larger(a: u32, b: u32) -> u32
 /// What stands before a group's `(`: nothing, `||`, `^^`, `??` or a conditional.
 #[derive(Drop)]
 pub enum Head {
+    /// No token, as in front of a plain `( )`.
     Nothing,
+    /// `||`
     Any,
+    /// `^^`
     One,
+    /// `??`
     Most,
+    /// `flag?`, and `!flag?` where it is negated.
     If { flag: Text, negated: bool },
 }
 
 impl Head {
+    /// Whether a token stands there, behind which no other one than `(` may come.
     pub fn is_there(&self) -> bool
         ensures { result ≡ is_there self.now }
     {
@@ -40,7 +46,9 @@ impl Head {
 /// Why a token wasn't taken.
 #[derive(Drop)]
 pub enum StepFault {
+    /// The token is at fault, in this way.
     Fault(ExprKind),
+    /// Memory was wanted and not given; of the token nothing is told.
     NoMemory,
 }
 

@@ -49,6 +49,7 @@ fn flag_fault(flag: &Text) -> Option<ExprKind>
 }
 
 impl<E: Grammar> Reader<E> {
+    /// A reader that has taken no token.
     pub fn new(alloc: Global) -> Reader<E>
         ensures { result ≡ nothing }
     {

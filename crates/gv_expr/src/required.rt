@@ -52,6 +52,7 @@ pub enum UseTree {
 #[cycle(required)]
 #[derive(Drop)]
 pub struct UseExpr {
+    /// The top trees alone: what stands in a group is in its tree.
     pub items: Vec<UseTree>,
     depth: u32,
 }

@@ -8,7 +8,9 @@ use std::alloc::Global;
 /// A token of an expression.
 #[derive(Drop)]
 pub enum Token {
+    /// `(`
     Open,
+    /// `)`
     Close,
     /// `||`
     Any,

@@ -11,7 +11,7 @@ use std::alloc::Global;
 use std::collections::BTreeMap;
 use std::marker::Model;
 
-/// Places in a list, from 0.
+/// The places of one name: numbers of items of a list, from 0, in the order in which they were added.
 #[derive(Drop)]
 pub struct Places {
     items: Vec<u32>,
@@ -67,6 +67,7 @@ pub struct Index {
 }
 
 impl Index {
+    /// An index without names.
     pub fn new(alloc: Global) -> Index
         ensures { (key : List ℕ) → places_at result key ≡ [] }
     {
@@ -112,6 +113,7 @@ pub struct PairIndex {
 }
 
 impl PairIndex {
+    /// An index without categories.
     pub fn new(alloc: Global) -> PairIndex
         ensures { (category name : List ℕ) → pair_places result category name ≡ [] }
     {

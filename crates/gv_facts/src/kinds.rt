@@ -8,42 +8,59 @@ use std::alloc::Global;
 /// The rules by which a package is read (PMS chapter 2).
 #[derive(Clone, Copy, Debug, PartialEq, Eq)]
 pub enum Eapi {
+    /// `5`, which has neither BDEPEND nor IDEPEND.
     Five,
+    /// `6`, with the classes of `5`.
     Six,
+    /// `7`, which has BDEPEND; from here on an empty `||` or `^^` doesn't hold.
     Seven,
+    /// `8`, which has IDEPEND too.
     Eight,
 }
 
 /// REQUIRED_USE and the classes of dependencies (PMS chapter 7).
 #[derive(Clone, Copy, Debug, PartialEq, Eq)]
 pub enum Class {
+    /// REQUIRED_USE: which flags may be set together. No class of dependencies.
     Required,
+    /// DEPEND: what has to be there while the package is built.
     Depend,
+    /// BDEPEND: what has to run on the machine that builds the package. From EAPI 7.
     Bdepend,
+    /// RDEPEND: what has to be there where the package is used.
     Rdepend,
+    /// PDEPEND: what has to be there when the whole batch is merged.
     Pdepend,
+    /// IDEPEND: what `pkg_preinst`, `pkg_postinst` and the like need. From EAPI 8.
     Idepend,
 }
 
 /// Which keywords accept a package: at stable that of the arch alone, at testing also that with `~`.
 #[derive(Clone, Copy, Debug, PartialEq, Eq)]
 pub enum Level {
+    /// The arch as it stands among the keywords.
     Stable,
+    /// The arch, or `~` and the arch.
     Testing,
 }
 
 /// The status of a profile in `profiles/profiles.desc`.
 #[derive(Clone, Copy, Debug, PartialEq, Eq)]
 pub enum Status {
+    /// `stable`
     Stable,
+    /// `dev`: in development.
     Dev,
+    /// `exp`: experimental.
     Exp,
 }
 
 /// Where a package is judged: in the profile of a line of `profiles/profiles.desc`, from 1, and at a level.
 #[derive(Clone, Copy, Debug, PartialEq, Eq)]
 pub struct Context {
+    /// The number that the profile itself has as its `line`.
     pub line: u32,
+    /// The level at which the profile shows packages, this one and those that it may need.
     pub level: Level,
 }
 

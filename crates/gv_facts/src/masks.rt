@@ -11,7 +11,9 @@ use std::marker::Model;
 /// A line of a `package.mask` file that is in force: the text of the line and its atom.
 #[derive(Drop)]
 pub struct Mask {
+    /// The only word of the line: a later line with `-` and this text takes the mask away.
     pub text: Text,
+    /// The packages that are masked are those that it matches.
     pub atom: Atom,
 }
 

@@ -13,12 +13,17 @@ use std::marker::Model;
 /// A package, as its cache entry tells it (PMS chapter 7).
 #[derive(Drop)]
 pub struct Pkg {
+    /// The folder in which its entry stands.
     pub category: Text,
+    /// What stands in the PF before the version and its hyphen.
     pub name: Text,
+    /// What stands in the PF behind the name, with the revision where one is written.
     pub version: Version,
     /// Name, hyphen and version as they were written.
     pub pf: Text,
+    /// The value of EAPI.
     pub eapi: Eapi,
+    /// What stands in SLOT before the slash, or all of it.
     pub slot: Text,
     /// The sub-slot, which is the slot where none was written.
     pub sub: Text,

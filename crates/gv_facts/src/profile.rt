@@ -11,9 +11,11 @@ use std::marker::Model;
 pub struct Profile {
     /// Its line in `profiles/profiles.desc`, from 1.
     pub line: u32,
+    /// The first word of that line, as keywords name it.
     pub arch: Text,
     /// The path word of that line, as it was written.
     pub path: Text,
+    /// The third word of that line.
     pub status: Status,
     /// The words of IUSE_IMPLICIT.
     pub iuse_implicit: Texts,
@@ -52,7 +54,7 @@ impl Profile {
     }
 }
 
-/// A list of profiles.
+/// Profiles in the order in which they were added: of a repository, that of their lines in `profiles/profiles.desc`.
 #[derive(Drop)]
 pub struct Profiles {
     items: Vec<Profile>,

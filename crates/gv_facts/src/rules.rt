@@ -11,18 +11,22 @@ use std::marker::Model;
 /// What a rule does to a flag.
 #[derive(Clone, Copy, Debug, PartialEq, Eq)]
 pub enum Effect {
+    /// The flag is on where it isn't masked too.
     Force,
+    /// The flag is off, also where it is forced.
     Mask,
 }
 
 /// A flag in a file that forces or masks flags.
 #[derive(Drop)]
 pub struct Rule {
+    /// Told by the name of the file: a `.force` or a `.mask`.
     pub effect: Effect,
     /// Whether it counts only where stable restrictions apply.
     pub stable: bool,
     /// The packages for which it counts, all where there is none.
     pub atom: Option<Atom>,
+    /// The name alone, without the `-` of a rule that ends an effect.
     pub flag: Text,
     /// Whether the effect begins, or an earlier one ends (`-flag`).
     pub on: bool,

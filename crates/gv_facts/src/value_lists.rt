@@ -8,7 +8,9 @@ use std::marker::Model;
 /// The words of the variable `USE_EXPAND_VALUES_` and the name.
 #[derive(Drop)]
 pub struct ValueList {
+    /// What stands in the variable's name behind `USE_EXPAND_VALUES_`: a word of USE_EXPAND_IMPLICIT.
     pub name: Text,
+    /// The words of its value in their order; none where the variable isn't assigned.
     pub words: Texts,
 }
 

@@ -1,4 +1,4 @@
--- Package order is total.
+-- A proof that the comparisons of members take, and no rule: package order is total.
 use Rattle.std.specs.Cmp.{IsTotalOrder}
 use Rattle.std.proofs.lemmas.Cmp.{on_total}
 use Rattle.gv_report.specs.OrderTotal.{subject_total}

@@ -339,7 +339,7 @@ fn with_both(alloc: Global, entries: &Texts, ebuilds: &Texts) -> Result<Listing,
     Ok(Listing { listed, pfs })
 }
 
-/// Lists a category.
+/// Lists the folder of a category's entries, then the category's own folder, and then the folders in that one.
 pub(crate) fn list_category<T: Tree>(
     alloc: Global,
     reader: &Reader,

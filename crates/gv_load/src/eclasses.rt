@@ -140,7 +140,7 @@ fn put_if(
     }
 }
 
-// Reads an eclass.
+// Reads the file of this name, and keeps its digest where it is a file.
 fn read_eclass<T: Tree>(
     alloc: Global,
     reader: &mut Reader,

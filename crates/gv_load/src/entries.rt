@@ -301,7 +301,7 @@ pub(crate) fn read_pfs<T: Tree>(
     Ok(())
 }
 
-// Reads a category.
+// Lists a category, reads the entries and ebuilds of its PFs in byte order, and adds what they are at the end.
 fn read_category<T: Tree>(
     alloc: Global,
     reader: &mut Reader,

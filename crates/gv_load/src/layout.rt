@@ -22,7 +22,7 @@ pub(crate) struct Layout {
     pub package_use_stable_force: Text,
 }
 
-/// The names.
+/// The names as PMS spells them: `eapi`, `parent`, `make.defaults` and so on.
 #[tactic(auto, unfolding(crate::specs::Layout::layout))]
 pub(crate) fn dir_names(alloc: Global) -> Result<Layout, NoMemory>
     ensures { IfOk result (λ names. names ≡ layout) }

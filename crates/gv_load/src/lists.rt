@@ -40,7 +40,7 @@ pub(crate) struct Lists {
     pub notes: PlaceNotes,
 }
 
-/// The paths.
+/// The paths from the top of the repository: all three stand in its folder `profiles`.
 pub(crate) fn top_paths(alloc: Global) -> Result<TopPaths, NoMemory>
     ensures { IfOk result (λ paths. paths ≡ top_paths) }
 {

@@ -14,7 +14,7 @@ pub(crate) fn desc_path(alloc: Global) -> Result<Text, NoMemory>
     Text::of(alloc, b"profiles/profiles.desc")
 }
 
-/// The list of categories.
+/// The file that names the categories, one a line.
 #[tactic(auto, unfolding(crate::specs::Paths::categories_path))]
 pub(crate) fn categories_path(alloc: Global) -> Result<Text, NoMemory>
     ensures { IfOk result (λ path. path ≡ categories_path) }

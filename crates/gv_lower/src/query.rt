@@ -29,6 +29,7 @@ pub enum LowerFault {
     Flags { count: u32 },
     /// It weighs more than 2,000,000: so much, or the last number of 64 bits where it weighs more than that.
     Weight { count: u64 },
+    /// Memory for its flags or gates was wanted and not given.
     NoMemory,
 }
 

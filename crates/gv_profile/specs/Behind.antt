@@ -1,4 +1,4 @@
--- Masks under lines that stand behind them.
+-- Words of private contracts: masks under lines that stand behind them.
 use Rattle.std.specs.Prelude.{List, ◌++◌, not, filter, reverse}
 use Rattle.gv_base.specs.Order.{has_text}
 use Rattle.gv_facts.specs.declared.masks.Mask.{Mask}

@@ -1,4 +1,5 @@
--- The orders of subjects and of reports are total preorders: any two compare, and what ties is alike against every third.
+-- A proof that the comparisons of reports take, and no rule: the orders of subjects and of reports are total preorders, in
+-- which any two compare, and what ties is alike against every third.
 use Rattle.std.specs.Prelude.{◌≡◌, ℕ, List, option_map, refl}
 use Rattle.std.specs.declared.cmp.Ordering.{Ordering}
 use Rattle.std.specs.declared.cmp.Ordering.TheVariants.{Less, Equal}

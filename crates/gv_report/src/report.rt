@@ -30,18 +30,24 @@ pub enum Subject {
 pub struct ContextName {
     /// The line of the profile list, from 1.
     pub line: u32,
+    /// The first word of that line.
     pub arch: Text,
     /// The path word of that line.
     pub path: Text,
+    /// Which keywords the profile accepts: the arch alone, or with `~` too.
     pub level: Level,
 }
 
 /// A report. Which parts it has is told by its keyword.
 #[derive(Drop)]
 pub struct Report {
+    /// The place or package with which its line begins.
     pub subject: Subject,
+    /// The kind, which stands behind the subject in the line.
     pub keyword: Keyword,
+    /// The class in which an atom or a flag stands, or that fails; none where the report is of no class.
     pub class: Option<Class>,
+    /// Where the package was judged; none of what is told without a profile, as NonexistentDeps.
     pub context: Option<ContextName>,
     /// The flags of the query, with `-` before those that are off, joined by one space.
     pub witness: Option<Text>,
@@ -125,7 +131,7 @@ impl Report {
     }
 }
 
-/// A list of reports.
+/// Reports in the order in which they were added; `ordered` puts them into that in which they are printed.
 #[derive(Drop)]
 pub struct Reports {
     items: Vec<Report>,

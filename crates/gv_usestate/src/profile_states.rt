@@ -59,7 +59,7 @@ impl<'a> ProfileStates<'a> {
         Ok(ProfileStates { profile, places })
     }
 
-    /// The profile.
+    /// The profile whose rules are indexed.
     pub fn profile(&self) -> &'a Profile
         ensures { result.now ≡ self.now }
     {

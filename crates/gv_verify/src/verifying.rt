@@ -21,6 +21,7 @@ pub enum VerifyFault {
     NoSuchText { offset: u64 },
     /// A query has more than 4,096 flags or weighs more than 2,000,000: CATEGORY/PF of its package, and the limit.
     Limit { place: Text, number: u64 },
+    /// Memory was wanted and not given: nothing is told of the report.
     NoMemory,
 }
 

@@ -1,4 +1,5 @@
--- Numbers by their digits, for the proof in `Total`: a longer number that doesn't begin with 0 is greater.
+-- Lemmas, and no rule: numbers by their digits, for the proof in `Total` and for other proofs. A longer number that doesn't
+-- begin with 0 is greater.
 use Rattle.std.proofs.Common.{◌≡◌, ℕ, suc, ◌+◌, ◌*◌, ◌-◌, ◌<◌, ◌≤◌, Bool, true, false, List, [], ◌∷◌, length, take, refl, ap, sym, ◌∙◌, arith}
 use Rattle.std.proofs.lemmas.Bool.{and_parts, and_from, eqb-false}
 use Rattle.std.specs.Prelude.{fold}

@@ -156,14 +156,14 @@ impl<'a, F: Fn(&Pkg) -> bool> Candidates<'a, F> {
         self.index.pkgs()
     }
 
-    /// The profile.
+    /// The profile whose masks and whose arch say what is visible.
     pub fn profile(&self) -> &'a Profile
         ensures { result.now ≡ profile_of self.now }
     {
         self.profile
     }
 
-    /// The level.
+    /// The level at which keywords accept candidates.
     pub fn level(&self) -> Level
         ensures { result ≡ level_of self.now }
     {

@@ -59,7 +59,7 @@ impl<'a> MaskIndex<'a> {
         Ok(MaskIndex { profile, places })
     }
 
-    /// The profile.
+    /// The profile whose masks are indexed.
     pub fn profile(&self) -> &'a Profile
         ensures { result.now ≡ self.now }
     {

@@ -79,7 +79,7 @@ impl<'a> VisiblePkgs<'a> {
         self.index
     }
 
-    /// The profile.
+    /// The profile by which it was asked what is visible, at both levels.
     pub fn profile(&self) -> &'a Profile
         ensures { result.now ≡ self.now.profile }
     {

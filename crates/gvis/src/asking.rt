@@ -36,9 +36,9 @@ pub struct Verification {
 /// What is asked for.
 #[derive(Drop)]
 pub enum Job {
-    /// A scan.
+    /// To judge a repository and print its reports.
     Scan { asked: Asked },
-    /// A verification.
+    /// To hold a report against certificates.
     Verify { verification: Verification },
     /// The demo of a number.
     Demo { number: u64 },

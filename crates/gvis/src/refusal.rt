@@ -10,10 +10,11 @@ pub enum Refusal {
     TreeFailed { path: Text },
     /// The store failed at this path.
     StoreFailed { path: Text },
-    /// The output failed.
+    /// What the run has to say couldn't be written.
     OutputFailed,
     /// The budget was spent at this query: CATEGORY/PF CLASS ARCH PATH LEVEL.
     Spent { name: Text },
+    /// Memory was wanted and not given, anywhere in the run.
     NoMemory,
     /// The path has to be a file, and isn't.
     NotARepository { path: Text },
