@@ -11,7 +11,7 @@ use std::process::Abort;
 use std::test::Fail;
 
 fn read<R: Abort>(rt: &R, alloc: Global, text: &str) -> Atom {
-    read_atom(alloc, text.as_bytes()).expect(rt, "an atom")
+    read_atom(alloc, text.as_bytes()).expect(rt, text)
 }
 
 fn text<R: Abort>(rt: &R, alloc: Global, text: &str) -> Text {
@@ -168,31 +168,28 @@ fn has_fault(alloc: Global, text: &str, kind: &str, place: u32) -> bool {
     }
 }
 
-fn faults_are<R: Abort>(rt: &R, alloc: Global, table: &str) -> Result<(), &'static str> {
+fn faults_are<R: Abort>(rt: &R, alloc: Global, table: &str) {
     for line in table.lines() {
         let mut words = line.split(' ');
-        let text = words.next().ok_or("text")?;
-        let kind = words.next().ok_or("kind")?;
-        let place = words.next().ok_or("place")?;
-        let place = place.parse::<u32>().ok().ok_or("number")?;
+        let text = words.next().expect(rt, line);
+        let kind = words.next().expect(rt, line);
+        let place = words.next().expect(rt, line);
+        let place = place.parse::<u32>().expect(rt, line);
         assert!(rt; has_fault(alloc, text, kind, place), "{line}");
     }
-    Ok(())
 }
 
 #[test]
-fn each_fault_has_its_kind_and_place(rt: HostRuntime) -> Result<(), Fail> {
-    faults_are(&rt, rt.alloc(), FAULTS)?;
+fn each_fault_has_its_kind_and_place(rt: HostRuntime) {
+    faults_are(&rt, rt.alloc(), FAULTS);
     assert!(rt; has_fault(rt.alloc(), "", "Category", 0));
     assert!(rt; has_fault(rt.alloc(), "x /y", "Category", 0));
     assert!(rt; has_fault(rt.alloc(), "x/y[f, g]", "Item", 6));
-    Ok(())
 }
 
 #[test]
-fn the_first_of_two_faults_is_told(rt: HostRuntime) -> Result<(), Fail> {
-    faults_are(&rt, rt.alloc(), PAIRS)?;
-    Ok(())
+fn the_first_of_two_faults_is_told(rt: HostRuntime) {
+    faults_are(&rt, rt.alloc(), PAIRS);
 }
 
 const GOOD: &str = "\
@@ -310,26 +307,25 @@ x/yy - 1 0 0\n\
 xx/y - 1 0 0";
 
 #[test]
-fn atoms_match_by_name_operator_and_slot(rt: HostRuntime) -> Result<(), Fail> {
+fn atoms_match_by_name_operator_and_slot(rt: HostRuntime) {
     let category = text(&rt, rt.alloc(), "x");
     let name = text(&rt, rt.alloc(), "y");
     for line in MATCHES.lines() {
         let mut words = line.split(' ');
-        let atom = read(&rt, rt.alloc(), words.next().ok_or("atom")?);
-        let sign = words.next().ok_or("sign")?;
-        let version = words.next().ok_or("version")?;
-        let version = read_version(rt.alloc(), version.as_bytes()).expect(&rt, "a version");
-        let slot = text(&rt, rt.alloc(), words.next().ok_or("slot")?);
-        let sub = text(&rt, rt.alloc(), words.next().ok_or("sub-slot")?);
+        let atom = read(&rt, rt.alloc(), words.next().expect(&rt, line));
+        let sign = words.next().expect(&rt, line);
+        let version = words.next().expect(&rt, line);
+        let version = read_version(rt.alloc(), version.as_bytes()).expect(&rt, line);
+        let slot = text(&rt, rt.alloc(), words.next().expect(&rt, line));
+        let sub = text(&rt, rt.alloc(), words.next().expect(&rt, line));
         let found = matches(&atom, &category, &name, &version, &slot, &sub);
         let want = match sign {
             "+" => true,
             "-" => false,
-            _ => return Err("an atom matches or not".into()),
+            _ => return assert!(rt; false, "{line}"),
         };
         assert!(rt; found == want, "{line}");
     }
-    Ok(())
 }
 
 /// An item, and what it asks where the parent's flag is on and where it is off.
@@ -355,19 +351,19 @@ fn asked_item<R: Abort>(rt: &R, alloc: Global, item: &str) -> UseItem {
     let mut line = text(rt, alloc, "x/y[");
     line.append(item.as_bytes()).expect(rt, "memory");
     line.append(b"]").expect(rt, "memory");
-    let atom = read_atom(alloc, line.bytes()).expect(rt, "an atom");
-    let first = atom.items.items().first().expect(rt, "an item");
+    let atom = read_atom(alloc, line.bytes()).expect(rt, item);
+    let first = atom.items.items().first().expect(rt, item);
     first.copy(alloc).expect(rt, "memory")
 }
 
 #[test]
-fn items_ask_and_blockers_block(rt: HostRuntime) -> Result<(), Fail> {
+fn items_ask_and_blockers_block(rt: HostRuntime) {
     let mut items = UseItems::new(rt.alloc());
     for line in ASKED.lines() {
         let mut words = line.split(' ');
-        let item = asked_item(&rt, rt.alloc(), words.next().ok_or("item")?);
-        let on = words.next().ok_or("on")?;
-        let off = words.next().ok_or("off")?;
+        let item = asked_item(&rt, rt.alloc(), words.next().expect(&rt, line));
+        let on = words.next().expect(&rt, line);
+        let off = words.next().expect(&rt, line);
         assert!(rt; asked_word(item.ask.asked(true)) == on, "{line}");
         assert!(rt; asked_word(item.ask.asked(false)) == off, "{line}");
         assert!(rt; item.ask.asks_parent() == (on != off), "{line}");
@@ -377,7 +373,6 @@ fn items_ask_and_blockers_block(rt: HostRuntime) -> Result<(), Fail> {
     assert!(rt; !read(&rt, rt.alloc(), "x/y").is_blocker());
     assert!(rt; read(&rt, rt.alloc(), "!x/y").is_blocker());
     assert!(rt; read(&rt, rt.alloc(), "!!<x/y-1").is_blocker());
-    Ok(())
 }
 
 fn is_item(item: &UseItem, flag: &[u8], missing: Option<bool>) -> bool {

@@ -118,18 +118,18 @@ fn texts_are_cut_into_lines_words_tokens_and_parts(rt: HostRuntime) {
     for (bytes, cut, want) in cases {
         same(&rt, dotted(&rt, alloc, bytes, cut).bytes(), want);
     }
-    let paths: [(&[u8], bool); 8] = [
-        (b"profiles/base/use.mask", true),
-        (b"...", true),
-        (b"", false),
-        (b"/a", false),
-        (b"a/", false),
-        (b"a/./b", false),
-        (b"..", false),
-        (b"a b", false),
+    let paths: [(&str, bool); 8] = [
+        ("profiles/base/use.mask", true),
+        ("...", true),
+        ("", false),
+        ("/a", false),
+        ("a/", false),
+        ("a/./b", false),
+        ("..", false),
+        ("a b", false),
     ];
-    for (bytes, want) in paths {
-        assert!(rt; is_path(bytes) == want);
+    for (path, want) in paths {
+        assert!(rt; is_path(path.as_bytes()) == want, "{path}");
     }
     assert!(rt; has_plain_bytes(b"!/~") && !has_plain_bytes(b"a\x7f"));
     assert!(rt; is_part(b"...") && !is_part(b"..") && !is_part(b"") && !is_part(b"a/b"));
@@ -154,9 +154,10 @@ fn files_are_put_cut_and_found(rt: HostRuntime) {
     same_found(&rt, files.get(b"a/b/c"), b"-");
     same_found(&rt, files.get(b"a/b/d"), b"three");
     same_found(&rt, files.get(b"a/b"), b"-");
-    let cases: [(&[u8], bool); 4] = [(b"a", true), (b"a/b", true), (b"ab", false), (b"", false)];
+    let cases: [(&str, bool); 4] = [("a", true), ("a/b", true), ("ab", false), ("", false)];
     for (path, want) in cases {
-        assert!(rt; files.is_folder(path).expect(&rt, "memory") == want);
+        let found = files.is_folder(path.as_bytes()).expect(&rt, path);
+        assert!(rt; found == want, "{path}");
     }
     let names = files.names_below(rt.alloc(), b"a").expect(&rt, "memory");
     same_texts(&rt, rt.alloc(), &names, b"b|b-1");
@@ -179,18 +180,19 @@ fn tree_fails_at_the_listed_call_alone(rt: HostRuntime) {
     let mut tree = MemTree::new(some_files(&rt, alloc), one_call(&rt, alloc, 3));
     tree.enter(alloc, &text(&rt, alloc, b"root"))
         .expect(&rt, "memory");
-    let cases: [(&[u8], &[u8]); 7] = [
-        (b"ab", b"four"),
-        (b"a", b"/"),
-        (b"ab", b"failed"),
-        (b"ab", b"four"),
-        (b"a/b", b"/"),
-        (b"a/b-1", b"one"),
-        (b"a/", b"-"),
+    let reads: [(u32, &[u8], &[u8]); 7] = [
+        (1, b"ab", b"four"),
+        (2, b"a", b"/"),
+        (3, b"ab", b"failed"),
+        (4, b"ab", b"four"),
+        (5, b"a/b", b"/"),
+        (6, b"a/b-1", b"one"),
+        (7, b"a/", b"-"),
     ];
-    for (path, want) in cases {
+    for (call, path, want) in reads {
         let found = tree.read(alloc, &text(&rt, alloc, path));
-        same(&rt, shown(&rt, alloc, found).bytes(), want);
+        let got = shown(&rt, alloc, found);
+        assert_eq!(rt; got.bytes(), want, "call {call} of the tree");
     }
     let names = tree
         .list(alloc, &text(&rt, alloc, b"a"))
@@ -245,18 +247,25 @@ fn source_and_sink_fail_at_the_listed_call_alone(rt: HostRuntime) {
     let mut source = MemSource::new(bytes, 2, one_call(&rt, alloc, 2));
     let mut sink = MemSink::new(alloc, 3, one_call(&rt, alloc, 3));
     let mut room = [0; 4];
-    for want in [Ok(2), Err(Failed), Ok(2), Ok(1), Ok(0)] {
-        assert!(rt; source.next(&mut room) == want);
+    let takes: [(u32, Result<usize, Failed>); 5] = [
+        (1, Ok(2)),
+        (2, Err(Failed)),
+        (3, Ok(2)),
+        (4, Ok(1)),
+        (5, Ok(0)),
+    ];
+    for (call, want) in takes {
+        assert!(rt; source.next(&mut room) == want, "call {call} of the source");
     }
     same(&rt, &room, b"ed\0\0");
-    let cases: [(&[u8], Result<usize, SinkFault>); 4] = [
-        (b"abcd", Ok(3)),
-        (b"d", Ok(1)),
-        (b"e", Err(SinkFault::Failed)),
-        (b"e", Ok(1)),
+    let puts: [(u32, &[u8], Result<usize, SinkFault>); 4] = [
+        (1, b"abcd", Ok(3)),
+        (2, b"d", Ok(1)),
+        (3, b"e", Err(SinkFault::Failed)),
+        (4, b"e", Ok(1)),
     ];
-    for (piece, want) in cases {
-        assert!(rt; sink.put(piece) == want);
+    for (call, piece, want) in puts {
+        assert!(rt; sink.put(piece) == want, "call {call} of the sink");
     }
     same(&rt, sink.held(), b"abcde");
     assert!(rt; sink.put(b"") == Ok(0));

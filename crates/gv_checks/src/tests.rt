@@ -254,40 +254,55 @@ fn lines_behind<R: Abort>(rt: &R, alloc: Global, case: &str, mark: &str) -> Text
     let mut lines = text(rt, alloc, "");
     for line in case.lines() {
         if let Some(rest) = line.strip_prefix(mark) {
-            lines.append(rest.as_bytes()).expect(rt, "memory");
-            lines.append(b"\n").expect(rt, "memory");
+            lines.append(rest.as_bytes()).expect(rt, case);
+            lines.append(b"\n").expect(rt, case);
         }
     }
     lines
 }
 
 // That each query of the repository is answered from these records, and that none is known without them.
-fn try_queries<R: Abort>(rt: &R, alloc: Global, repo: &Repo, options: &Options, certs: &Known) {
-    let names = queries(alloc, repo, options).expect(rt, "memory");
+fn try_queries<R: Abort>(
+    rt: &R,
+    alloc: Global,
+    case: &str,
+    repo: &Repo,
+    options: &Options,
+    certs: &Known,
+) {
+    let names = queries(alloc, repo, options).expect(rt, case);
     for name in names.items() {
         let found = asked(rt, alloc, repo, name, options, certs);
-        let again = known(rt, alloc, repo, name, options, certs).expect(rt, "a record");
-        assert!(rt; found.reused && again.reused);
-        assert!(rt; found.answer.bytes() == again.answer.bytes());
-        assert!(rt; known(rt, alloc, repo, name, options, &Known::new(alloc)).is_none());
+        let again = known(rt, alloc, repo, name, options, certs).expect(rt, case);
+        assert!(rt; found.reused && again.reused, "{case}");
+        assert!(rt; found.answer.bytes() == again.answer.bytes(), "{case}");
+        let none = known(rt, alloc, repo, name, options, &Known::new(alloc));
+        assert!(rt; none.is_none(), "{case}");
     }
 }
 
 // That the records alone tell the same, and that the first query is told where there are none.
-fn try_recall<R: Abort>(rt: &R, alloc: Global, repo: &Repo, options: &Options, found: &Judged)
+fn try_recall<R: Abort>(
+    rt: &R,
+    alloc: Global,
+    case: &str,
+    repo: &Repo,
+    options: &Options,
+    found: &Judged,
+)
     requires { options.now.json ≡ false }
 {
     let Ok(again) = recalled(alloc, repo, options, &found.certs) else {
-        return assert!(rt; false, "recalled");
+        return assert!(rt; false, "recalled: {case}");
     };
     let lines = lines_of(alloc, options, &found.reports).expect(rt, "memory");
     let same = lines_of(alloc, options, &again.reports).expect(rt, "memory");
-    assert!(rt; lines.bytes() == same.bytes());
-    assert_eq!(rt; again.queries, found.queries);
+    assert!(rt; lines.bytes() == same.bytes(), "{case}");
+    assert_eq!(rt; again.queries, found.queries, "{case}");
     match recalled(alloc, repo, options, &Known::new(alloc)) {
-        Ok(none) => assert_eq!(rt; none.queries, 0),
-        Err(RecallFault::NotBacked { query }) => assert_eq!(rt; query, 1),
-        Err(_) => assert!(rt; false, "no record"),
+        Ok(none) => assert_eq!(rt; none.queries, 0, "{case}"),
+        Err(RecallFault::NotBacked { query }) => assert_eq!(rt; query, 1, "{case}"),
+        Err(_) => assert!(rt; false, "no record: {case}"),
     }
 }
 
@@ -309,8 +324,8 @@ fn try_case<R: Abort>(rt: &R, alloc: Global, case: &str) {
         (case, counts.as_bytes()),
         (case, lines_behind(rt, alloc, case, "= ").bytes())
     );
-    try_queries(rt, alloc, &repo, &options, &found.certs);
-    try_recall(rt, alloc, &repo, &options, &found);
+    try_queries(rt, alloc, case, &repo, &options, &found.certs);
+    try_recall(rt, alloc, case, &repo, &options, &found);
     let Ok(again) = judged(alloc, &repo, &options, &found.certs) else {
         return assert!(rt; false, "{case}");
     };
@@ -410,10 +425,10 @@ fn a_query_shows_its_least_assignment(rt: HostRuntime) {
     let names = queries(alloc, &repo, &options).expect(&rt, "memory");
     let copied = names.copy(alloc).expect(&rt, "memory");
     let mut all = text(&rt, alloc, "");
-    for name in copied.items() {
+    for (count, name) in copied.items().iter().enumerate() {
         let name = name.copy(alloc).expect(&rt, "memory");
         let found = asked(&rt, alloc, &repo, &name, &options, &Known::new(alloc));
-        assert!(&rt; !found.reused);
+        assert!(&rt; !found.reused, "query {count}");
         all.append(shown(&rt, alloc, &found).bytes())
             .expect(&rt, "memory");
         all.append(b"; ").expect(&rt, "memory");

@@ -18,51 +18,44 @@ fn read_over(
 }
 
 #[test]
-fn files_are_read_over_what_stood_before(rt: HostRuntime) -> Result<(), &'static str> {
+fn files_are_read_over_what_stood_before(rt: HostRuntime) {
     let before = b"USE=b IUSE_IMPLICIT=\"b c\" P=\"p  q\"".as_slice();
-    let rows: [(&[u8], &[u8], &[u8], Option<u32>); 20] = [
-        (b"", b"USE", b"b", None),
-        (b"", b"P", b"p|q", None),
-        (b"", b"A", b"", None),
+    let rows: [(&str, &str, &[u8], Option<u32>); 20] = [
+        ("", "USE", b"b", None),
+        ("", "P", b"p|q", None),
+        ("", "A", b"", None),
         (
-            b"A=\"x y\"\nUSE=\"a ${A}\"\nUSE=\"$USE -b\"",
-            b"USE",
+            "A=\"x y\"\nUSE=\"a ${A}\"\nUSE=\"$USE -b\"",
+            "USE",
             b"a|x|y",
             None,
         ),
-        (b"A=\"x y\"\nUSE=\"a ${A}\"\n", b"A", b"x|y", None),
-        (b"B=\"x", b"B", b"", Some(1)),
-        (b"B=\"x", b"USE", b"b", Some(1)),
-        (b"# c\nA=1 \\\nB=2", b"A", b"1", Some(2)),
-        (b"# c\nA=1 \\\nB=2", b"B", b"", Some(2)),
-        (b"A='x\ny'\nexport A=1", b"A", b"x|y", Some(3)),
-        (b"A=1\nA+=1", b"A", b"1", Some(2)),
-        (b"A=1#x #y", b"A", b"1#x", None),
-        (b"A=\"$P\"'$P'\\$P", b"A", b"p|q$P$P", None),
-        (b"A=\"$IUSE_IMPLICIT\"-${C}x$", b"A", b"b|c-x$", None),
-        (b"A=a\\ b\"\\\"\\\\\\$\\x\"\\", b"A", b"a|b\"\\$\\x\\", None),
-        (b"USE=\"-b d b -* e -e\ne\"", b"USE", b"e", None),
-        (
-            b"IUSE_IMPLICIT=\"-b d b\"",
-            b"IUSE_IMPLICIT",
-            b"c|d|b",
-            None,
-        ),
-        (b"USE=d USE=e", b"USE", b"b|e", None),
-        (b"P=-p", b"P", b"-p", None),
-        (b"ENV_UNSET=\"x -x y\"", b"ENV_UNSET", b"y", None),
+        ("A=\"x y\"\nUSE=\"a ${A}\"\n", "A", b"x|y", None),
+        ("B=\"x", "B", b"", Some(1)),
+        ("B=\"x", "USE", b"b", Some(1)),
+        ("# c\nA=1 \\\nB=2", "A", b"1", Some(2)),
+        ("# c\nA=1 \\\nB=2", "B", b"", Some(2)),
+        ("A='x\ny'\nexport A=1", "A", b"x|y", Some(3)),
+        ("A=1\nA+=1", "A", b"1", Some(2)),
+        ("A=1#x #y", "A", b"1#x", None),
+        ("A=\"$P\"'$P'\\$P", "A", b"p|q$P$P", None),
+        ("A=\"$IUSE_IMPLICIT\"-${C}x$", "A", b"b|c-x$", None),
+        ("A=a\\ b\"\\\"\\\\\\$\\x\"\\", "A", b"a|b\"\\$\\x\\", None),
+        ("USE=\"-b d b -* e -e\ne\"", "USE", b"e", None),
+        ("IUSE_IMPLICIT=\"-b d b\"", "IUSE_IMPLICIT", b"c|d|b", None),
+        ("USE=d USE=e", "USE", b"b|e", None),
+        ("P=-p", "P", b"-p", None),
+        ("ENV_UNSET=\"x -x y\"", "ENV_UNSET", b"y", None),
     ];
     for (file, name, want, bad) in rows {
-        let (words, line) = read_over(rt.alloc(), before, file, name)
-            .ok()
-            .ok_or("no memory")?;
-        assert!(rt; words.bytes() == want, "the words of a file");
-        assert!(rt; line == bad, "the line of a fault");
+        let read = read_over(rt.alloc(), before, file.as_bytes(), name.as_bytes());
+        let (words, line) = read.expect(&rt, file);
+        assert!(rt; words.bytes() == want, "the words of {name} in {file}");
+        assert!(rt; line == bad, "the line of a fault in {file}");
     }
     pieces_law();
     parts_law();
     incremental_law();
-    Ok(())
 }
 
 // Ten thousand names, a hundred thousand words of which all but the last are removed again, and a value that is doubled
@@ -87,22 +80,19 @@ fn large_file(alloc: Global) -> Result<String, AllocError> {
 }
 
 #[test]
-fn large_files_are_read(rt: HostRuntime) -> Result<(), &'static str> {
+fn large_files_are_read(rt: HostRuntime) {
     let alloc = rt.alloc();
-    let file = large_file(alloc).ok().ok_or("no memory")?;
+    let file = large_file(alloc).expect(&rt, "memory");
     let unset = Vars::new(alloc);
-    let read = read_defaults(alloc, file.as_bytes(), &unset)
-        .ok()
-        .ok_or("no memory")?;
+    let read = read_defaults(alloc, file.as_bytes(), &unset).expect(&rt, "memory");
     assert!(rt; read.bad.is_none(), "a large file has no fault");
-    let rows: [(&[u8], usize, usize); 3] = [(b"N9999", 2, 6), (b"USE", 1, 6), (b"A", 1, 1_048_576)];
+    let rows: [(&str, usize, usize); 3] = [("N9999", 2, 6), ("USE", 1, 6), ("A", 1, 1_048_576)];
     for (name, count, bytes) in rows {
-        let words = read.vars.words(alloc, name).ok().ok_or("no memory")?;
-        let text = words.joined(alloc, b'|').ok().ok_or("no memory")?;
-        assert_eq!(rt; words.items().len(), count);
-        assert_eq!(rt; text.bytes().len(), bytes);
+        let words = read.vars.words(alloc, name.as_bytes()).expect(&rt, name);
+        let text = words.joined(alloc, b'|').expect(&rt, name);
+        assert_eq!(rt; words.items().len(), count, "{name}");
+        assert_eq!(rt; text.bytes().len(), bytes, "{name}");
     }
-    Ok(())
 }
 
 // A value that is doubled thirty times, and ninety-nine names that stand for it.

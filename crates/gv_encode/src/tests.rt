@@ -38,7 +38,7 @@ fn clauses_stand_in_the_written_order(rt: HostRuntime) -> Result<(), Fail> {
         ),
     ];
     for (what, bytes, want) in cases {
-        let gates = read_gates(alloc, bytes)?.ok_or("no gates")?;
+        let gates = read_gates(alloc, bytes)?.expect(&rt, what);
         let clauses = encode(alloc, &gates)?;
         assert_eq!(rt; clauses.items().len(), want.len(), "{what}");
         for (clause, lits) in clauses.items().iter().zip(want) {
@@ -122,7 +122,10 @@ fn one_assignment_extends_the_bits(rt: HostRuntime) -> Result<(), Fail> {
         for number in 0..8 {
             let mut bits = Bits::new(alloc);
             add_bits(&mut bits, number, gates.inputs())?;
-            assert!(rt; bits.items().len() == gates.inputs() as usize);
+            assert!(rt;
+                bits.items().len() == gates.inputs() as usize,
+                "{start} {number}"
+            );
             let places = values(alloc, &gates, &bits)?;
             let root = is_on(places.items(), gates.root());
             some_on |= root;

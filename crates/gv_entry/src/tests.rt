@@ -94,13 +94,17 @@ EAPI=8&SLOT=0&IDEPEND=)&PDEPEND=)&RDEPEND=)&BDEPEND=)&DEPEND=)&REQUIRED_USE=) @ 
 fn has_errors<R: Abort>(rt: &R, alloc: Global, table: &str, want: &str) {
     let text = lines(rt, alloc, table);
     let entry = read(rt, alloc, "q-1", text.bytes());
-    assert_eq!(rt; errors(rt, alloc, &entry).bytes(), want.as_bytes());
+    assert_eq!(rt;
+        errors(rt, alloc, &entry).bytes(),
+        want.as_bytes(),
+        "{table}"
+    );
 }
 
 #[test]
 fn entries_have_these_errors(rt: HostRuntime) {
     for line in ERRORS.lines() {
-        let (table, want) = line.split_once(" @ ").expect(&rt, "a row of two");
+        let (table, want) = line.split_once(" @ ").expect(&rt, line);
         has_errors(&rt, rt.alloc(), table, want);
     }
 }
@@ -221,14 +225,14 @@ fn is_told<R: Abort>(rt: &R, alloc: Global, pf: &str, table: &str, want: &str) {
     let entry = read(rt, alloc, pf, text.bytes())
         .copy(alloc)
         .expect(rt, "memory");
-    assert_eq!(rt; told(rt, alloc, &entry).bytes(), want.as_bytes());
+    assert_eq!(rt; told(rt, alloc, &entry).bytes(), want.as_bytes(), "{table}");
 }
 
 #[test]
 fn entries_are_these_packages(rt: HostRuntime) {
     for line in HEADS.lines() {
-        let (pf, rest) = line.split_once(" @ ").expect(&rt, "a row of three");
-        let (table, want) = rest.split_once(" @ ").expect(&rt, "a row of three");
+        let (pf, rest) = line.split_once(" @ ").expect(&rt, line);
+        let (table, want) = rest.split_once(" @ ").expect(&rt, line);
         is_told(&rt, rt.alloc(), pf, table, want);
     }
 }
@@ -263,7 +267,7 @@ d41d8cd98f00b204e9800998ecf842\n\
 #[test]
 fn digests_are_md5(rt: HostRuntime) {
     for line in DIGESTS.lines() {
-        let (digits, message) = line.split_once(' ').expect(&rt, "a row of two");
+        let (digits, message) = line.split_once(' ').expect(&rt, line);
         let want = digest(&rt, rt.alloc(), digits);
         assert!(&rt; want == Some(digest_of(message.as_bytes())), "{message}");
     }
@@ -309,7 +313,7 @@ fn eclasses<R: Abort>(rt: &R, alloc: Global, value: &str) -> Text {
     text
 }
 
-fn eclass_names<R: Abort>(rt: &R, alloc: Global, entry: &Entry) -> Text {
+fn eclass_names<R: Abort>(rt: &R, alloc: Global, entry: &Entry, line: &str) -> Text {
     let Some(eclasses) = &entry.eclasses else {
         return Text::of(alloc, b"none").expect(rt, "memory");
     };
@@ -318,7 +322,7 @@ fn eclass_names<R: Abort>(rt: &R, alloc: Global, entry: &Entry) -> Text {
         names
             .add(eclass.name.copy(alloc).expect(rt, "memory"))
             .expect(rt, "memory");
-        assert!(rt; eclass.digest == digest_of(b""));
+        assert!(rt; eclass.digest == digest_of(b""), "{line}");
     }
     names.joined(alloc, b' ').expect(rt, "memory")
 }
@@ -327,12 +331,16 @@ fn eclass_names<R: Abort>(rt: &R, alloc: Global, entry: &Entry) -> Text {
 fn eclasses_are_pairs_of_a_name_and_a_digest(rt: HostRuntime) {
     let alloc = rt.alloc();
     for line in ECLASSES.lines() {
-        let (value, want) = line.split_once(" @ ").expect(&rt, "a row of two");
+        let (value, want) = line.split_once(" @ ").expect(&rt, line);
         let text = eclasses(&rt, alloc, value);
         let entry = read(&rt, alloc, "q-1", text.bytes())
             .copy(alloc)
             .expect(&rt, "memory");
-        assert_eq!(&rt; eclass_names(&rt, alloc, &entry).bytes(), want.as_bytes());
+        assert_eq!(&rt;
+            eclass_names(&rt, alloc, &entry, line).bytes(),
+            want.as_bytes(),
+            "{line}"
+        );
     }
 }
 
@@ -348,7 +356,7 @@ fn append_count<R: Abort>(rt: &R, text: &mut Text, count: Option<usize>) {
 }
 
 // How many trees stand at the top of each expression, `-` where one is broken.
-fn counts<R: Abort>(rt: &R, alloc: Global, entry: &Entry) -> Text {
+fn counts<R: Abort>(rt: &R, alloc: Global, entry: &Entry, line: &str) -> Text {
     let mut text = Text::of(alloc, b"").expect(rt, "memory");
     let required = entry.body.required.as_ref().map(|e| e.items().len());
     append_count(rt, &mut text, required);
@@ -362,7 +370,7 @@ fn counts<R: Abort>(rt: &R, alloc: Global, entry: &Entry) -> Text {
         let count = class_in(&entry.body, class).map(|e| e.items().len());
         append_count(rt, &mut text, count);
     }
-    assert!(rt; class_in(&entry.body, Class::Required).is_none());
+    assert!(rt; class_in(&entry.body, Class::Required).is_none(), "{line}");
     text
 }
 
@@ -381,12 +389,16 @@ EAPI=8&SLOT=/&IUSE=?&PDEPEND=x/y @ 000010";
 fn expressions_are_read_where_the_eapi_has_the_class(rt: HostRuntime) {
     let alloc = rt.alloc();
     for line in BODIES.lines() {
-        let (table, want) = line.split_once(" @ ").expect(&rt, "a row of two");
+        let (table, want) = line.split_once(" @ ").expect(&rt, line);
         let text = lines(&rt, alloc, table);
         let entry = read(&rt, alloc, "q-1", text.bytes())
             .copy(alloc)
             .expect(&rt, "memory");
-        assert_eq!(&rt; counts(&rt, alloc, &entry).bytes(), want.as_bytes());
+        assert_eq!(&rt;
+            counts(&rt, alloc, &entry, line).bytes(),
+            want.as_bytes(),
+            "{line}"
+        );
     }
     mentions_law();
     bits_law();

@@ -7,7 +7,6 @@ use crate::{
 use gv_base::Text;
 use std::alloc::Global;
 use std::process::Abort;
-use std::test::Fail;
 
 fn three_parts(line: &str) -> Result<(&str, &str, &str), &'static str> {
     let mut parts = line.split(';');
@@ -163,34 +162,28 @@ a ) +;Stray;2\n\
 + ^^ a;BadFlag;1";
 
 #[test]
-fn first_faults_of_dependencies(rt: HostRuntime) -> Result<(), Fail> {
+fn first_faults_of_dependencies(rt: HostRuntime) {
     for line in DEPENDENCIES.lines() {
-        let (text, kind, token) = three_parts(line)?;
-        let token = token.parse::<u32>()?;
+        let (text, kind, token) = three_parts(line).expect(&rt, line);
+        let token = token.parse::<u32>().expect(&rt, line);
         let (got, at) = told_dep(rt.alloc(), text.as_bytes());
         assert!(rt; got == kind && at == token, "{line}");
     }
-    Ok(())
 }
 
 #[test]
-fn first_faults_of_required_use(rt: HostRuntime) -> Result<(), Fail> {
+fn first_faults_of_required_use(rt: HostRuntime) {
     for line in REQUIRED.lines() {
-        let (text, kind, token) = three_parts(line)?;
-        let token = token.parse::<u32>()?;
+        let (text, kind, token) = three_parts(line).expect(&rt, line);
+        let token = token.parse::<u32>().expect(&rt, line);
         let (got, at) = told_required(rt.alloc(), text.as_bytes());
         assert!(rt; got == kind && at == token, "{line}");
     }
-    Ok(())
 }
 
 // The dependency that the bytes are.
 fn dep<R: Abort>(rt: &R, alloc: Global, bytes: &[u8]) -> DepExpr {
     read_dep(alloc, bytes).expect(rt, "a dependency")
-}
-
-fn required<R: Abort>(rt: &R, alloc: Global, bytes: &[u8]) -> UseExpr {
-    read_required(alloc, bytes).expect(rt, "a REQUIRED_USE")
 }
 
 fn printed<R: Abort>(rt: &R, alloc: Global, items: &DepExpr) -> Text {
@@ -202,26 +195,39 @@ fn printed_required<R: Abort>(rt: &R, alloc: Global, items: &UseExpr) -> Text {
 }
 
 // The dependency is printed so, also a copy and what is read of that text, and mentions these flags.
-fn shows<R: Abort>(rt: &R, alloc: Global, bytes: &[u8], text: &[u8], flags: &[u8]) {
-    let items = dep(rt, alloc, bytes);
+fn shows<R: Abort>(rt: &R, alloc: Global, line: &str, bytes: &[u8], text: &[u8], flags: &[u8]) {
+    let items = read_dep(alloc, bytes).expect(rt, line);
     let copy = items.copy(alloc).expect(rt, "memory");
-    assert!(rt; printed(rt, alloc, &copy).bytes() == text);
-    let again = dep(rt, alloc, text);
-    assert!(rt; printed(rt, alloc, &again).bytes() == text);
+    assert!(rt; printed(rt, alloc, &copy).bytes() == text, "{line}");
+    let again = read_dep(alloc, text).expect(rt, line);
+    assert!(rt; printed(rt, alloc, &again).bytes() == text, "{line}");
     let mentioned = mentioned_dep(alloc, &items).expect(rt, "memory");
     let mentioned = mentioned.joined(alloc, b',').expect(rt, "memory");
-    assert!(rt; mentioned.bytes() == flags);
+    assert!(rt; mentioned.bytes() == flags, "{line}");
 }
 
-fn shows_required<R: Abort>(rt: &R, alloc: Global, bytes: &[u8], text: &[u8], flags: &[u8]) {
-    let items = required(rt, alloc, bytes);
+fn shows_required<R: Abort>(
+    rt: &R,
+    alloc: Global,
+    line: &str,
+    bytes: &[u8],
+    text: &[u8],
+    flags: &[u8],
+) {
+    let items = read_required(alloc, bytes).expect(rt, line);
     let copy = items.copy(alloc).expect(rt, "memory");
-    assert!(rt; printed_required(rt, alloc, &copy).bytes() == text);
-    let again = required(rt, alloc, text);
-    assert!(rt; printed_required(rt, alloc, &again).bytes() == text);
+    assert!(rt;
+        printed_required(rt, alloc, &copy).bytes() == text,
+        "{line}"
+    );
+    let again = read_required(alloc, text).expect(rt, line);
+    assert!(rt;
+        printed_required(rt, alloc, &again).bytes() == text,
+        "{line}"
+    );
     let mentioned = mentioned_required(alloc, &items).expect(rt, "memory");
     let mentioned = mentioned.joined(alloc, b',').expect(rt, "memory");
-    assert!(rt; mentioned.bytes() == flags);
+    assert!(rt; mentioned.bytes() == flags, "{line}");
 }
 
 /// Dependencies, each with its printed text and the flags that it mentions.
@@ -250,28 +256,29 @@ b a\tb;b a b;a,b\n\
 ?? ( ) ^^ ( ) || ( ) ( );?? ( ) ^^ ( ) || ( ) ( );";
 
 #[test]
-fn printed_texts_and_mentioned_flags(rt: HostRuntime) -> Result<(), Fail> {
+fn printed_texts_and_mentioned_flags(rt: HostRuntime) {
     for line in PRINTED.lines() {
-        let (bytes, text, flags) = three_parts(line)?;
+        let (bytes, text, flags) = three_parts(line).expect(&rt, line);
         shows(
             &rt,
             rt.alloc(),
+            line,
             bytes.as_bytes(),
             text.as_bytes(),
             flags.as_bytes(),
         );
     }
     for line in PRINTED_REQUIRED.lines() {
-        let (bytes, text, flags) = three_parts(line)?;
+        let (bytes, text, flags) = three_parts(line).expect(&rt, line);
         shows_required(
             &rt,
             rt.alloc(),
+            line,
             bytes.as_bytes(),
             text.as_bytes(),
             flags.as_bytes(),
         );
     }
-    Ok(())
 }
 
 fn item<R: Abort>(rt: &R, alloc: Global, bytes: &[u8], n: u32, text: &[u8]) {

@@ -283,13 +283,14 @@ fn eapis_with(class: Class) -> usize {
 
 #[test]
 fn bdepend_begins_with_seven_and_idepend_with_eight(rt: HostRuntime) {
-    for class in [
-        Class::Required,
-        Class::Depend,
-        Class::Rdepend,
-        Class::Pdepend,
-    ] {
-        assert_eq!(&rt; eapis_with(class), 4);
+    let in_all: [(&str, Class); 4] = [
+        ("REQUIRED_USE", Class::Required),
+        ("DEPEND", Class::Depend),
+        ("RDEPEND", Class::Rdepend),
+        ("PDEPEND", Class::Pdepend),
+    ];
+    for (key, class) in in_all {
+        assert_eq!(&rt; eapis_with(class), 4, "{key}");
     }
     assert_eq!(&rt; eapis_with(Class::Bdepend), 2);
     assert_eq!(&rt; eapis_with(Class::Idepend), 1);

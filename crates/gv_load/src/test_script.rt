@@ -38,8 +38,8 @@ pub(crate) fn append_number<R: Abort>(rt: &R, alloc: Global, text: &mut Text, nu
     append(rt, text, digits.as_bytes());
 }
 
-fn same<R: Abort>(rt: &R, got: &[u8], want: &[u8]) {
-    assert_eq!(rt; got, want);
+fn same<R: Abort>(rt: &R, what: &str, got: &[u8], want: &[u8]) {
+    assert_eq!(rt; got, want, "{what}");
 }
 
 fn begin<R: Abort>(rt: &R, alloc: Global) -> Script {
@@ -157,8 +157,15 @@ pub(crate) fn fault_text<R: Abort>(rt: &R, alloc: Global, fault: &LoadFault) -> 
     got
 }
 
-// Loads over these files with this call failing, and compares what comes of it.
-pub(crate) fn expect<R: Abort>(rt: &R, alloc: Global, files: &Files, fails: u32, want: &[u8]) {
+// Loads over these files with this call failing, and compares what comes of it, which has a name.
+pub(crate) fn expect<R: Abort>(
+    rt: &R,
+    alloc: Global,
+    what: &str,
+    files: &Files,
+    fails: u32,
+    want: &[u8],
+) {
     let mut calls = Calls::new(alloc);
     calls.add(fails).expect(rt, "memory");
     let mut tree = MemTree::new(files.copy(alloc).expect(rt, "memory"), calls);
@@ -166,7 +173,7 @@ pub(crate) fn expect<R: Abort>(rt: &R, alloc: Global, files: &Files, fails: u32,
         Ok(repo) => repo_text(rt, alloc, &repo),
         Err(fault) => fault_text(rt, alloc, &fault),
     };
-    same(rt, got.bytes(), want);
+    same(rt, what, got.bytes(), want);
 }
 
 fn add_wanted<R: Abort>(rt: &R, script: &mut Script, line: &[u8]) {
@@ -174,8 +181,23 @@ fn add_wanted<R: Abort>(rt: &R, script: &mut Script, line: &[u8]) {
     append(rt, &mut script.want, b"\n");
 }
 
-// Performs a line, and answers whether it was a load.
-fn performs<R: Abort>(rt: &R, alloc: Global, script: &mut Script, line: &[u8]) -> bool {
+// Loads as the lines before say, of which this is the load of this number.
+fn load_number<R: Abort>(rt: &R, alloc: Global, script: &mut Script, number: u32) {
+    let what = format!(in alloc; "load {number}").expect(rt, "memory");
+    expect(
+        rt,
+        alloc,
+        what.as_str(),
+        &script.files,
+        script.fails,
+        script.want.bytes(),
+    );
+    script.fails = 0;
+    script.want = text(rt, alloc, b"");
+}
+
+// Performs a line behind so many loads, and answers whether it was a load.
+fn performs<R: Abort>(rt: &R, alloc: Global, script: &mut Script, line: &[u8], loads: u32) -> bool {
     match line {
         [b'@', path @ ..] => begin_file(rt, alloc, script, path),
         [b'|', bytes @ ..] => add(rt, alloc, script, bytes, b"\n"),
@@ -184,9 +206,7 @@ fn performs<R: Abort>(rt: &R, alloc: Global, script: &mut Script, line: &[u8]) -
         [b'f', b' ', digits @ ..] => script.fails = number(digits),
         [b'n', b'e', b'w'] => script.files = Files::new(alloc),
         [b'='] => {
-            expect(rt, alloc, &script.files, script.fails, script.want.bytes());
-            script.fails = 0;
-            script.want = text(rt, alloc, b"");
+            load_number(rt, alloc, script, loads.saturating_add(1));
             return true;
         }
         _ => add_wanted(rt, script, line),
@@ -201,7 +221,7 @@ pub(crate) fn perform<R: Abort>(rt: &R, alloc: Global, lines: &[u8], want: u32) 
     let mut rest = Some(lines);
     for _ in 0..1000 {
         if let Some(line) = next_piece(&mut rest, Cut::Lines) {
-            if !line.is_empty() && performs(rt, alloc, &mut script, line) {
+            if !line.is_empty() && performs(rt, alloc, &mut script, line, loads) {
                 loads = loads.saturating_add(1);
             }
         }

@@ -214,7 +214,8 @@ fn each_call_that_fails_is_told_with_its_path(rt: HostRuntime) {
         let mut want = text(&rt, alloc, b"! tree ");
         append(&rt, &mut want, path);
         append(&rt, &mut want, b"\n");
-        expect(&rt, alloc, &files, number, want.bytes());
+        let what = format!(in alloc; "call {number}").expect(&rt, "memory");
+        expect(&rt, alloc, what.as_str(), &files, number, want.bytes());
     }
     assert_eq!(rt; next_piece(&mut rest, Cut::Lines).is_none(), true);
 }
@@ -239,6 +240,7 @@ fn letters<R: Abort>(rt: &R, alloc: Global, count: u32) -> Text {
 fn expect_path<R: Abort>(
     rt: &R,
     alloc: Global,
+    what: &str,
     files: &Files,
     front: &[u8],
     letters: &Text,
@@ -250,7 +252,7 @@ fn expect_path<R: Abort>(
     append(rt, &mut limit, letters.bytes());
     append(rt, &mut limit, b" 4096\n");
     let want = if passes { limit.bytes() } else { otherwise };
-    expect(rt, alloc, files, 0, want);
+    expect(rt, alloc, what, files, 0, want);
 }
 
 #[test]
@@ -262,9 +264,11 @@ fn a_path_has_at_most_4096_bytes(rt: HostRuntime) {
         append(&rt, &mut line, path.bytes());
         append(&rt, &mut line, b" stable\n");
         let files = one_line(&rt, alloc, line.bytes());
+        let what = format!(in alloc; "a profile of {count}").expect(&rt, "memory");
         expect_path(
             &rt,
             alloc,
+            what.as_str(),
             &files,
             b"profiles/",
             &path,
@@ -276,9 +280,11 @@ fn a_path_has_at_most_4096_bytes(rt: HostRuntime) {
         let category = letters(&rt, alloc, count);
         let mut files = one_line(&rt, alloc, b"");
         put(&rt, &mut files, b"profiles/categories", category.bytes());
+        let what = format!(in alloc; "a category of {count}").expect(&rt, "memory");
         expect_path(
             &rt,
             alloc,
+            what.as_str(),
             &files,
             b"metadata/md5-cache/",
             &category,
@@ -301,13 +307,15 @@ fn a_file_has_at_most_16777216_bytes(rt: HostRuntime) {
     expect(
         &rt,
         alloc,
+        "as large as may be",
         &files,
         0,
         b"> ProfileError profiles/profiles.desc:1 missing profile\n",
     );
     append(&rt, &mut bytes, b"a");
     put(&rt, &mut files, b"profiles/base", bytes.bytes());
-    expect(&rt, alloc, &files, 0, b"! limit profiles/base 16777216\n");
+    let want = b"! limit profiles/base 16777216\n";
+    expect(&rt, alloc, "one byte more", &files, 0, want);
 }
 
 // Adds a directory that names the next one as a parent as often.
@@ -337,21 +345,23 @@ fn chain<R: Abort>(rt: &R, alloc: Global, last: u64, times: u32) -> Files {
 #[test]
 fn a_stack_has_at_most_4096_visits(rt: HostRuntime) {
     let alloc = rt.alloc();
+    let refused = b"! limit profiles/d0 4096\n";
     let files = chain(&rt, alloc, 11, 2);
-    expect(&rt, alloc, &files, 0, b"s amd64 d0\n");
+    expect(&rt, alloc, "11 twice", &files, 0, b"s amd64 d0\n");
     let files = chain(&rt, alloc, 12, 2);
-    expect(&rt, alloc, &files, 0, b"! limit profiles/d0 4096\n");
+    expect(&rt, alloc, "12 twice", &files, 0, refused);
     let files = chain(&rt, alloc, 4095, 1);
-    expect(&rt, alloc, &files, 0, b"s amd64 d0\n");
+    expect(&rt, alloc, "4095 once", &files, 0, b"s amd64 d0\n");
     let files = chain(&rt, alloc, 4096, 1);
-    expect(&rt, alloc, &files, 0, b"! limit profiles/d0 4096\n");
+    expect(&rt, alloc, "4096 once", &files, 0, refused);
 }
 
 #[test]
 fn a_chain_of_directories_may_be_long(rt: HostRuntime) {
     let alloc = rt.alloc();
     let files = chain(&rt, alloc, 100_000, 1);
-    expect(&rt, alloc, &files, 0, b"! limit profiles/d0 4096\n");
+    let want = b"! limit profiles/d0 4096\n";
+    expect(&rt, alloc, "100000 once", &files, 0, want);
 }
 
 // A folder of mask files that are empty.
@@ -369,11 +379,12 @@ fn masks<R: Abort>(rt: &R, alloc: Global, count: u64) -> Files {
 fn a_load_finds_at_most_400000_files(rt: HostRuntime) {
     let alloc = rt.alloc();
     let mut files = masks(&rt, alloc, 399_998);
-    expect(&rt, alloc, &files, 0, b"");
+    expect(&rt, alloc, "400000 files", &files, 0, b"");
     put(&rt, &mut files, b"profiles/package.mask/z", b"");
     expect(
         &rt,
         alloc,
+        "one file more",
         &files,
         0,
         b"! limit profiles/package.mask/z 400000\n",

@@ -64,10 +64,10 @@ fn or_of_nothing_is_false(rt: HostRuntime) -> Result<(), Fail> {
 #[test]
 fn an_input_as_root_is_its_bit(rt: HostRuntime) -> Result<(), Fail> {
     let alloc = rt.alloc();
-    for bit in [false, true] {
+    for (what, bit) in [("off", false), ("on", true)] {
         let gates = GateList::new(alloc, 1).finish(Lit(0));
         let bits = Bits::of(alloc, &[bit])?;
-        assert_eq!(rt; value(alloc, &gates, &bits)?, bit);
+        assert_eq!(rt; value(alloc, &gates, &bits)?, bit, "{what}");
     }
     Ok(())
 }

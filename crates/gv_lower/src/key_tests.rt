@@ -100,19 +100,19 @@ fn key_among(
 
 fn has_key<R: Abort>(rt: &R, alloc: Global, line: &str) {
     let mut parts = line.split(';');
-    let eapi = eapi_of(parts.next().expect(rt, "an EAPI"));
-    let iuse = parts.next().expect(rt, "IUSE");
-    let others = parts.next().expect(rt, "IUSE of x/y-1");
-    let atom = parts.next().expect(rt, "an atom");
-    let forced = parts.next().expect(rt, "forced flags");
+    let eapi = eapi_of(parts.next().expect(rt, line));
+    let iuse = parts.next().expect(rt, line);
+    let others = parts.next().expect(rt, line);
+    let atom = parts.next().expect(rt, line);
+    let forced = parts.next().expect(rt, line);
     let mut profiles = Profiles::new(alloc);
     profiles
         .add(profile(rt, alloc, atom, forced))
         .expect(rt, "memory");
-    let required = parts.next().expect(rt, "REQUIRED_USE").as_bytes();
-    let rdepend = parts.next().expect(rt, "RDEPEND").as_bytes();
+    let required = parts.next().expect(rt, line).as_bytes();
+    let rdepend = parts.next().expect(rt, line).as_bytes();
     let body = body(rt, alloc, required, rdepend);
-    let want = parts.next().expect(rt, "a key").as_bytes();
+    let want = parts.next().expect(rt, line).as_bytes();
     let pkgs = pkgs(rt, alloc, eapi, iuse, others);
     let key = key_among(alloc, &pkgs, &profiles, &body).expect(rt, "memory");
     let mut got = Vec::new(alloc);

@@ -315,13 +315,20 @@ fn compare<R: Abort>(
     required: &[Tree],
     class: &[Tree],
     seen: &mut Seen,
+    round: u32,
 ) {
     let failing = tallied(required).all & !tallied(class).all;
     for assignment in 0..64 {
         let bits = bits_of(rt, alloc, query, assignment);
         let want = is_on(failing, assignment);
-        assert!(rt; value_at(rt, alloc, query, &bits) == want);
-        assert!(rt; items_agree(rt, alloc, query, &bits, class, assignment));
+        assert!(rt;
+            value_at(rt, alloc, query, &bits) == want,
+            "round {round}, assignment {assignment}"
+        );
+        assert!(rt;
+            items_agree(rt, alloc, query, &bits, class, assignment),
+            "round {round}, assignment {assignment}"
+        );
         if want {
             seen.failing = seen.failing.saturating_add(1);
         } else {
@@ -330,15 +337,18 @@ fn compare<R: Abort>(
     }
 }
 
-fn compare_required<R: Abort>(rt: &R, alloc: Global, query: &Query, required: &[Tree]) {
+fn compare_required<R: Abort>(rt: &R, alloc: Global, query: &Query, required: &[Tree], round: u32) {
     let holds = tallied(required).all;
     for assignment in 0..64 {
         let bits = bits_of(rt, alloc, query, assignment);
-        assert!(rt; value_at(rt, alloc, query, &bits) == is_on(holds, assignment));
+        assert!(rt;
+            value_at(rt, alloc, query, &bits) == is_on(holds, assignment),
+            "round {round}, assignment {assignment}"
+        );
     }
 }
 
-fn try_one<R: Abort>(rt: &R, alloc: Global, dice: &mut Dice, seen: &mut Seen) {
+fn try_one<R: Abort>(rt: &R, alloc: Global, dice: &mut Dice, seen: &mut Seen, round: u32) {
     let (word, empty) = match dice.throw(4) {
         0 => ("5", true),
         1 => ("6", true),
@@ -353,12 +363,12 @@ fn try_one<R: Abort>(rt: &R, alloc: Global, dice: &mut Dice, seen: &mut Seen) {
     let class_text = joined(rt, alloc, "", &class, "");
     let body = body(rt, alloc, required_text.bytes(), class_text.bytes());
     match failing(rt, alloc, &pkgs, &profile, &body) {
-        Ok(query) => compare(rt, alloc, &query, &required, &class, seen),
-        Err(_) => assert!(rt; false, "a query"),
+        Ok(query) => compare(rt, alloc, &query, &required, &class, seen, round),
+        Err(_) => assert!(rt; false, "round {round}"),
     }
     match allowed(rt, alloc, &pkgs, &profile, &body) {
-        Ok(query) => compare_required(rt, alloc, &query, &required),
-        Err(_) => assert!(rt; false, "a query"),
+        Ok(query) => compare_required(rt, alloc, &query, &required, round),
+        Err(_) => assert!(rt; false, "round {round}"),
     }
 }
 
@@ -369,8 +379,8 @@ fn random_queries_have_the_values_of_their_expressions(rt: HostRuntime) {
         failing: 0,
         others: 0,
     };
-    for _ in 0..300 {
-        try_one(&rt, rt.alloc(), &mut dice, &mut seen);
+    for round in 0..300 {
+        try_one(&rt, rt.alloc(), &mut dice, &mut seen, round);
     }
     assert!(&rt; seen.failing > 1000 && seen.others > 1000);
 }

@@ -71,15 +71,15 @@ fn bits_of<R: Abort>(rt: &R, alloc: Global, digits: &str) -> Bits {
 
 fn is_failing<R: Abort>(rt: &R, alloc: Global, line: &str) {
     let mut parts = line.split(';');
-    let eapi = eapi_of(parts.next().expect(rt, "an EAPI"));
-    let iuse = parts.next().expect(rt, "IUSE");
-    let others = parts.next().expect(rt, "IUSE of x/y-1");
-    let profile = profile(rt, alloc, "x/y", parts.next().expect(rt, "a forced flag"));
-    let required = parts.next().expect(rt, "REQUIRED_USE").as_bytes();
-    let rdepend = parts.next().expect(rt, "RDEPEND").as_bytes();
+    let eapi = eapi_of(parts.next().expect(rt, line));
+    let iuse = parts.next().expect(rt, line);
+    let others = parts.next().expect(rt, line);
+    let profile = profile(rt, alloc, "x/y", parts.next().expect(rt, line));
+    let required = parts.next().expect(rt, line).as_bytes();
+    let rdepend = parts.next().expect(rt, line).as_bytes();
     let body = body(rt, alloc, required, rdepend);
-    let bits = bits_of(rt, alloc, parts.next().expect(rt, "bits"));
-    let want = parts.next().expect(rt, "yes or no");
+    let bits = bits_of(rt, alloc, parts.next().expect(rt, line));
+    let want = parts.next().expect(rt, line);
     let pkgs = pkgs(rt, alloc, eapi, iuse, others);
     match failing(rt, alloc, &pkgs, &profile, &body) {
         Ok(query) => {

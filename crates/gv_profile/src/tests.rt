@@ -491,7 +491,7 @@ fn lists_are_read_with_their_notes(rt: HostRuntime) {
     let numbers: [u32; 3] = [2, 5, 6];
     assert_eq!(rt; copy.lines.items().len(), numbers.len());
     for (line, number) in copy.lines.items().iter().zip(numbers) {
-        assert_eq!(rt; line.number, number);
+        assert_eq!(rt; line.number, number, "line {number}");
     }
 }
 

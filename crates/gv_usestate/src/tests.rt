@@ -21,7 +21,7 @@ fn texts<R: Abort>(rt: &R, alloc: Global, words: &str) -> Texts {
 }
 
 fn atom<R: Abort>(rt: &R, alloc: Global, bytes: &str) -> Atom {
-    read_atom(alloc, bytes.as_bytes()).expect(rt, "an atom")
+    read_atom(alloc, bytes.as_bytes()).expect(rt, bytes)
 }
 
 // x/y-1.2 in slot 0/3.
@@ -43,7 +43,7 @@ fn pkg<R: Abort>(rt: &R, alloc: Global, keywords: &str, iuse: &str) -> Pkg {
 
 // The rule of a line: its file's kind, an atom for a package rule, and the flag, `-` in front where it is undone.
 fn rule<R: Abort>(rt: &R, alloc: Global, line: &str) -> Rule {
-    let (kind, rest) = line.split_once(' ').expect(rt, "a kind");
+    let (kind, rest) = line.split_once(' ').expect(rt, line);
     let (atom, flag) = match rest.split_once(' ') {
         Some((bytes, flag)) => (Some(atom(rt, alloc, bytes)), flag),
         None => (None, rest),
@@ -84,7 +84,7 @@ ELIBC uclibc";
 fn values<R: Abort>(rt: &R, alloc: Global) -> ValueLists {
     let mut values = ValueLists::new(alloc);
     for line in VALUES.lines() {
-        let (name, words) = line.split_once(' ').expect(rt, "a name and words");
+        let (name, words) = line.split_once(' ').expect(rt, line);
         let list = ValueList {
             name: text(rt, alloc, name),
             words: texts(rt, alloc, words),
@@ -159,6 +159,7 @@ fn has_states_by_kind<R: Abort>(
     pkg: &Pkg,
     flag: &Text,
     want: &str,
+    line: &str,
 ) {
     let ruled = RuledFlags::new(alloc, profiles.items()).expect(rt, "memory");
     let Some(profile) = first(profiles.items()) else {
@@ -168,7 +169,7 @@ fn has_states_by_kind<R: Abort>(
     let flag = flag.bytes();
     let stable = state_text(state_by_kind(&ruled, &states, pkg, Level::Stable, flag));
     let testing = state_text(state_by_kind(&ruled, &states, pkg, Level::Testing, flag));
-    assert_eq!(rt; want.split_once(' '), Some((stable, testing)));
+    assert_eq!(rt; want.split_once(' '), Some((stable, testing)), "{line}");
 }
 
 // The states of the flag at stable and at testing.
@@ -179,24 +180,25 @@ fn has_states<R: Abort>(
     rules: &str,
     flag: &str,
     want: &str,
+    line: &str,
 ) {
     let pkg = pkg(rt, alloc, keywords, "b a");
     let profile = profile(rt, alloc, rules);
     let flag = text(rt, alloc, flag);
     let stable = state_text(state(&pkg, &profile, Level::Stable, &flag));
     let testing = state_text(state(&pkg, &profile, Level::Testing, &flag));
-    assert_eq!(rt; want.split_once(' '), Some((stable, testing)));
+    assert_eq!(rt; want.split_once(' '), Some((stable, testing)), "{line}");
     // The same by an index of the profile's rules.
     let states = ProfileStates::new(alloc, &profile).expect(rt, "memory");
     let stable = state_text(states.state(&pkg, Level::Stable, flag.bytes()));
     let testing = state_text(states.state(&pkg, Level::Testing, flag.bytes()));
-    assert_eq!(rt; want.split_once(' '), Some((stable, testing)));
+    assert_eq!(rt; want.split_once(' '), Some((stable, testing)), "{line}");
     // And by what is known of the flag.
     let mut profiles = Profiles::new(alloc);
     profiles
         .add(self::profile(rt, alloc, rules))
         .expect(rt, "memory");
-    has_states_by_kind(rt, alloc, &profiles, &pkg, &flag, want);
+    has_states_by_kind(rt, alloc, &profiles, &pkg, &flag, want, line);
 }
 
 /// Keywords, rules in order, and the states of the flag `a` of x/y-1.2 at stable and at testing.
@@ -240,9 +242,9 @@ amd64;stable.mask =x/y-1.2 a;off free";
 fn the_last_rule_for_an_effect_decides_and_a_mask_before_a_force(rt: HostRuntime) {
     let alloc = rt.alloc();
     for line in STATES.lines() {
-        let (keywords, rest) = line.split_once(';').expect(&rt, "keywords");
-        let (rules, want) = rest.split_once(';').expect(&rt, "rules");
-        has_states(&rt, alloc, keywords, rules, "a", want);
+        let (keywords, rest) = line.split_once(';').expect(&rt, line);
+        let (rules, want) = rest.split_once(';').expect(&rt, line);
+        has_states(&rt, alloc, keywords, rules, "a", want, line);
     }
 }
 
@@ -261,10 +263,10 @@ fn flags_of_the_four_sources_are_effective(rt: HostRuntime) {
     assert_eq!(&rt; joined.bytes(), want.as_slice());
     for flag in flags.items() {
         let flag = std::str::from_utf8(flag.bytes()).unwrap_or("");
-        has_states(&rt, alloc, "amd64", "", flag, "free free");
+        has_states(&rt, alloc, "amd64", "", flag, "free free", flag);
     }
     for flag in ABSENT.split(' ') {
-        has_states(&rt, alloc, "amd64", "", flag, "absent absent");
+        has_states(&rt, alloc, "amd64", "", flag, "absent absent", flag);
     }
 }
 
@@ -284,8 +286,8 @@ fn a_flag_of_iuse_that_no_rule_names_is_plain(rt: HostRuntime) {
     let alloc = rt.alloc();
     let pkg = pkg(&rt, alloc, "amd64", "b a");
     for line in KINDS.lines() {
-        let (rules, rest) = line.split_once(';').expect(&rt, "rules");
-        let (flag, want) = rest.split_once(';').expect(&rt, "a flag");
+        let (rules, rest) = line.split_once(';').expect(&rt, line);
+        let (flag, want) = rest.split_once(';').expect(&rt, line);
         let mut profiles = Profiles::new(alloc);
         profiles.add(profile(&rt, alloc, "")).expect(&rt, "memory");
         profiles

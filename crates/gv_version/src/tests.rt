@@ -5,7 +5,6 @@ use crate::{
     read_version, same_but_revision, split_pf,
 };
 use std::cmp::Ordering;
-use std::test::Fail;
 
 fn three_words(line: &str) -> Result<(&str, &str, &str), &'static str> {
     let mut words = line.split(' ');
@@ -133,15 +132,15 @@ const ORDER: &str = "\
 1.02.3b_alpha_pre4_p20-r12 = 1.02.3b_alpha_pre4_p20-r12";
 
 #[test]
-fn versions_in_order(rt: HostRuntime) -> Result<(), Fail> {
+fn versions_in_order(rt: HostRuntime) {
     for line in ORDER.lines() {
-        let (one, sign, other) = three_words(line)?;
-        let a = read_version(rt.alloc(), one.as_bytes())?;
-        let b = read_version(rt.alloc(), other.as_bytes())?;
+        let (one, sign, other) = three_words(line).expect(&rt, line);
+        let a = read_version(rt.alloc(), one.as_bytes()).expect(&rt, line);
+        let b = read_version(rt.alloc(), other.as_bytes()).expect(&rt, line);
         let want = match sign {
             "<" => Ordering::Less,
             "=" => Ordering::Equal,
-            _ => return Err("a pair is in order or equal".into()),
+            _ => return assert!(rt; false, "{line}"),
         };
         assert_eq!(rt; compare(&a, &b), want, "{line}");
         assert_eq!(rt; compare(&b, &a), want.reverse(), "{line}");
@@ -150,7 +149,6 @@ fn versions_in_order(rt: HostRuntime) -> Result<(), Fail> {
             "{line}"
         );
     }
-    Ok(())
 }
 
 /// `~`: equal but for the revision; `*`: the first begins the second; `!` is not.
@@ -182,11 +180,11 @@ const FRONTS: &str = "\
 1_p !* 1_pre";
 
 #[test]
-fn fronts_and_revisions(rt: HostRuntime) -> Result<(), Fail> {
+fn fronts_and_revisions(rt: HostRuntime) {
     for line in FRONTS.lines() {
-        let (one, sign, other) = three_words(line)?;
-        let a = read_version(rt.alloc(), one.as_bytes())?;
-        let b = read_version(rt.alloc(), other.as_bytes())?;
+        let (one, sign, other) = three_words(line).expect(&rt, line);
+        let a = read_version(rt.alloc(), one.as_bytes()).expect(&rt, line);
+        let b = read_version(rt.alloc(), other.as_bytes()).expect(&rt, line);
         let holds = match sign {
             "~" => same_but_revision(&a, &b),
             "!~" => !same_but_revision(&a, &b),
@@ -197,21 +195,21 @@ fn fronts_and_revisions(rt: HostRuntime) -> Result<(), Fail> {
         assert!(rt; holds, "{line}");
         assert!(rt; a.text() == one.as_bytes(), "{line}");
     }
-    Ok(())
 }
 
 #[test]
-fn copies_are_sorted_as_the_versions(rt: HostRuntime) -> Result<(), Fail> {
+fn copies_are_sorted_as_the_versions(rt: HostRuntime) {
     let mut versions = Vec::new(rt.alloc());
     for text in "1.10 1-r1 1.9 1 1_rc1".split(' ') {
-        let version = read_version(rt.alloc(), text.as_bytes())?;
-        versions.push(Version::of(rt.alloc(), version.copy(rt.alloc())?.text())?)?;
+        let version = read_version(rt.alloc(), text.as_bytes()).expect(&rt, text);
+        let copy = version.copy(rt.alloc()).expect(&rt, text);
+        let again = Version::of(rt.alloc(), copy.text()).expect(&rt, text);
+        versions.push(again).expect(&rt, text);
     }
-    versions.sort()?;
+    versions.sort().expect(&rt, "memory");
     for (version, text) in versions.iter().zip("1_rc1 1 1-r1 1.9 1.10".split(' ')) {
         assert!(rt; version.text() == text.as_bytes(), "{text}");
     }
-    Ok(())
 }
 
 /// Where bytes fail to be a version: the form, or a run that is too long.
@@ -245,10 +243,10 @@ a1 shape 0\n\
 123456789012345678-r0000000000000000000 long 20";
 
 #[test]
-fn places_of_faults(rt: HostRuntime) -> Result<(), Fail> {
+fn places_of_faults(rt: HostRuntime) {
     for line in FAULTS.lines() {
-        let (text, kind, place) = three_words(line)?;
-        let place = place.parse::<u32>()?;
+        let (text, kind, place) = three_words(line).expect(&rt, line);
+        let place = place.parse::<u32>().expect(&rt, line);
         match read_version(rt.alloc(), text.as_bytes()) {
             Err(VersionFault::Shape { at }) => assert!(rt;
                 kind == "shape" && at == place,
@@ -261,7 +259,6 @@ fn places_of_faults(rt: HostRuntime) -> Result<(), Fail> {
             _ => assert!(rt; false, "{line}"),
         }
     }
-    Ok(())
 }
 
 /// Names that end in something like a version, and the hyphens of PFs.
@@ -337,9 +334,9 @@ x86-macos keyword yes\n\
 ~x keyword no";
 
 #[test]
-fn names_and_their_versions(rt: HostRuntime) -> Result<(), Fail> {
+fn names_and_their_versions(rt: HostRuntime) {
     for line in NAMES.lines() {
-        let (text, kind, answer) = three_words(line)?;
+        let (text, kind, answer) = three_words(line).expect(&rt, line);
         let bytes = text.as_bytes();
         let holds = match kind {
             "category" => is_category(bytes),
@@ -350,19 +347,18 @@ fn names_and_their_versions(rt: HostRuntime) -> Result<(), Fail> {
             "pf" => {
                 let place = match answer {
                     "none" => None,
-                    _ => Some(answer.parse::<u32>()?),
+                    _ => Some(answer.parse::<u32>().expect(&rt, line)),
                 };
                 assert!(rt; split_pf(bytes) == place, "{line}");
                 continue;
             }
-            _ => return Err("a name is of one of six kinds".into()),
+            _ => return assert!(rt; false, "{line}"),
         };
         let want = match answer {
             "yes" => true,
             "no" => false,
-            _ => return Err("a name is good or not".into()),
+            _ => return assert!(rt; false, "{line}"),
         };
         assert!(rt; holds == want, "{line}");
     }
-    Ok(())
 }

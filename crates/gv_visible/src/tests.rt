@@ -18,7 +18,7 @@ fn texts<R: Abort>(rt: &R, alloc: Global, words: &str) -> Texts {
 }
 
 fn atom<R: Abort>(rt: &R, alloc: Global, bytes: &str) -> Atom {
-    read_atom(alloc, bytes.as_bytes()).expect(rt, "an atom")
+    read_atom(alloc, bytes.as_bytes()).expect(rt, bytes)
 }
 
 // A package in slot 0/3.
@@ -33,7 +33,7 @@ fn pkg<R: Abort>(
     Pkg {
         category: text(rt, alloc, category),
         name: text(rt, alloc, name),
-        version: read_version(alloc, version.as_bytes()).expect(rt, "a version"),
+        version: read_version(alloc, version.as_bytes()).expect(rt, version),
         pf: text(rt, alloc, name),
         eapi: Eapi::Eight,
         slot: text(rt, alloc, "0"),
@@ -101,10 +101,18 @@ fn is_judged<R: Abort>(rt: &R, alloc: Global, keywords: &str, masks: &str, want:
         shown_text(stable, testing),
         level_text(judged(&pkg, &profile)),
     );
-    assert_eq!(rt; want.split_once(' '), Some(got));
+    assert_eq!(rt; want.split_once(' '), Some(got), "{keywords};{masks}");
     let index = MaskIndex::new(alloc, &profile).expect(rt, "memory");
-    assert_eq!(rt; index.visible(&pkg, Level::Stable), stable);
-    assert_eq!(rt; index.visible(&pkg, Level::Testing), testing);
+    assert_eq!(rt;
+        index.visible(&pkg, Level::Stable),
+        stable,
+        "{keywords};{masks}"
+    );
+    assert_eq!(rt;
+        index.visible(&pkg, Level::Testing),
+        testing,
+        "{keywords};{masks}"
+    );
 }
 
 /// Keywords and masks, then at which levels x/y-1.2:0/3 is visible and at which it is judged.
@@ -141,8 +149,8 @@ amd64;=x/y-1.2-r1;both stable";
 fn keywords_accept_and_masks_hide(rt: HostRuntime) {
     let alloc = rt.alloc();
     for line in JUDGED.lines() {
-        let (keywords, rest) = line.split_once(';').expect(&rt, "keywords");
-        let (masks, want) = rest.split_once(';').expect(&rt, "masks");
+        let (keywords, rest) = line.split_once(';').expect(&rt, line);
+        let (masks, want) = rest.split_once(';').expect(&rt, line);
         is_judged(&rt, alloc, keywords, masks, want);
     }
 }
@@ -172,10 +180,10 @@ fn pkgs<R: Abort>(rt: &R, alloc: Global) -> Pkgs {
     let mut pkgs = Pkgs::new(alloc);
     for line in PKGS.lines() {
         let mut words = line.split(' ');
-        let category = words.next().expect(rt, "a category");
-        let name = words.next().expect(rt, "a name");
-        let version = words.next().expect(rt, "a version");
-        let keyword = words.next().expect(rt, "a keyword");
+        let category = words.next().expect(rt, line);
+        let name = words.next().expect(rt, line);
+        let version = words.next().expect(rt, line);
+        let keyword = words.next().expect(rt, line);
         let pkg = pkg(rt, alloc, category, name, version, keyword);
         pkgs.add(pkg).expect(rt, "memory");
     }
@@ -226,14 +234,18 @@ fn finds<R: Abort>(
     let pkgs = index.pkgs();
     let found = next_visible(alloc, pkgs, profile, level, &atom, from).expect(rt, "memory");
     let found_over = next_visible_over(index, profile, level, &atom, from);
-    assert_eq!(rt; found, next_among(shown, level, &atom, from));
+    assert_eq!(rt;
+        found,
+        next_among(shown, level, &atom, from),
+        "{bytes} {from}"
+    );
     if want == "-" {
-        assert_eq!(rt; found, None);
-        assert_eq!(rt; found_over, None);
+        assert_eq!(rt; found, None, "{bytes} {from}");
+        assert_eq!(rt; found_over, None, "{bytes} {from}");
     } else {
-        let want: u32 = want.parse().expect(rt, "a number");
-        assert_eq!(rt; found, Some(want));
-        assert_eq!(rt; found_over, Some(want));
+        let want: u32 = want.parse().expect(rt, bytes);
+        assert_eq!(rt; found, Some(want), "{bytes} {from}");
+        assert_eq!(rt; found_over, Some(want), "{bytes} {from}");
     }
 }
 
@@ -241,11 +253,11 @@ fn finds<R: Abort>(
 fn finds_all<R: Abort>(rt: &R, alloc: Global, shown: &VisiblePkgs<'_>) {
     for line in NEXT.lines() {
         let mut words = line.split(' ');
-        let atom = words.next().expect(rt, "an atom");
-        let from = words.next().expect(rt, "a number");
-        let stable = words.next().expect(rt, "what is next at stable");
-        let testing = words.next().expect(rt, "what is next at testing");
-        let from: u32 = from.parse().expect(rt, "a number");
+        let atom = words.next().expect(rt, line);
+        let from = words.next().expect(rt, line);
+        let stable = words.next().expect(rt, line);
+        let testing = words.next().expect(rt, line);
+        let from: u32 = from.parse().expect(rt, line);
         finds(rt, alloc, shown, Level::Stable, atom, from, stable);
         finds(rt, alloc, shown, Level::Testing, atom, from, testing);
     }
@@ -266,16 +278,20 @@ z/z 0 0";
 
 fn counts<R: Abort>(rt: &R, alloc: Global, shown: &VisiblePkgs<'_>, bytes: &str, want: &str) {
     let atom = atom(rt, alloc, bytes);
-    let (named, met) = want.split_once(' ').expect(rt, "a number");
-    let named: usize = named.parse().expect(rt, "a number");
-    let met: usize = met.parse().expect(rt, "a number");
-    assert_eq!(rt; counts_among(shown, Level::Stable, &atom), (named, met));
+    let (named, met) = want.split_once(' ').expect(rt, bytes);
+    let named: usize = named.parse().expect(rt, bytes);
+    let met: usize = met.parse().expect(rt, bytes);
+    assert_eq!(rt;
+        counts_among(shown, Level::Stable, &atom),
+        (named, met),
+        "{bytes}"
+    );
 }
 
 // Each line of the table.
 fn counts_all<R: Abort>(rt: &R, alloc: Global, shown: &VisiblePkgs<'_>) {
     for line in COUNTS.lines() {
-        let (bytes, want) = line.split_once(' ').expect(rt, "an atom");
+        let (bytes, want) = line.split_once(' ').expect(rt, line);
         counts(rt, alloc, shown, bytes, want);
     }
 }
