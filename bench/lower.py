@@ -23,8 +23,8 @@ from programs import INPUT, build, timed
 PROGRAM = """//! Times the lowering of queries of packages that come in, a line each. Whatever is wrong with the input ends the program.
 #![tactic(auto)]
 ghost use Rattle.std.specs.Prelude.{◌≡◌};
-ghost use Rattle.gv_visible.specs.Tells.{AnswersVisible};
-ghost use Rattle.gv_visible.specs.Told.{level_of, profile_of, test_of};
+ghost use Rattle.gv_visible.specs.StoredTest.{AnswersVisible};
+ghost use Rattle.gv_visible.specs.Candidates.{level_of, profile_of, test_of};
 
 use gv_atom::{Atom, read_atom};
 use gv_base::{Steps, Text, Texts, words_of};

@@ -17,8 +17,8 @@ use Rattle.gv_atom.specs.declared.atom.Block.{Block}
 use Rattle.gv_atom.specs.declared.atom.CompareOp.{CompareOp}
 use Rattle.gv_atom.specs.declared.atom.SlotNeed.{SlotNeed}
 use Rattle.gv_atom.specs.declared.atom.SlotMark.{SlotMark}
-use Rattle.gv_atom.specs.AtomRead.{Division, division_of, block_of, block_length, op_of, op_length, category_of, after_slash, pf_part, is_starred, hyphen_of, slot_of, double_colon, items_of, bad_items, when, placed, name_fault, slot_fault, item_fault, division_fault, atom_fault, atom_with, atom_in, read_atom}
-use Rattle.gv_atom.specs.AtomText.{block_text, op_text, slot_text, items_text, version_part, atom_text, is_slotted, is_versioned, is_atom, IsAtomOf}
+use Rattle.gv_atom.specs.Reading.{Division, division_of, block_of, block_length, op_of, op_length, category_of, after_slash, pf_part, is_starred, hyphen_of, slot_of, double_colon, items_of, bad_items, when, placed, name_fault, slot_fault, item_fault, division_fault, atom_fault, atom_with, atom_in, read_atom}
+use Rattle.gv_atom.specs.Grammar.{block_text, op_text, slot_text, items_text, version_part, atom_text, is_slotted, is_versioned, is_atom, IsAtomOf}
 use Rattle.gv_atom.proofs.Pieces.{some_is, cut, begins_there, first_byte}
 use Rattle.gv_atom.proofs.SlotLaw.{SlotWritten, slot_written}
 use Rattle.gv_atom.proofs.ItemsLaw.{ItemsWritten, items_written}

@@ -8,13 +8,13 @@ use Rattle.std.specs.Str.{bytes_eq, byte}
 use Rattle.gv_base.specs.Cut.{from_first, ends_in, without_last}
 use Rattle.gv_version.specs.Bytes.{begins_with}
 use Rattle.gv_version.specs.Laws.{IsDivided}
-use Rattle.gv_version.specs.VersionForm.{is_version}
+use Rattle.gv_version.specs.Form.{is_version}
 use Rattle.gv_version.specs.Names.{is_package, split_pf}
 use Rattle.gv_atom.specs.declared.atom.Block.TheVariants.{No, Weak, Strong}
 use Rattle.gv_atom.specs.declared.atom.CompareOp.{CompareOp}
 use Rattle.gv_atom.specs.declared.atom.CompareOp.TheVariants as ops
-use Rattle.gv_atom.specs.AtomRead.{block_of, block_length, op_of, op_length, category_of, after_slash, is_starred, pf_part}
-use Rattle.gv_atom.specs.AtomText.{block_text, op_text, version_part, is_versioned}
+use Rattle.gv_atom.specs.Reading.{block_of, block_length, op_of, op_length, category_of, after_slash, is_starred, pf_part}
+use Rattle.gv_atom.specs.Grammar.{block_text, op_text, version_part, is_versioned}
 use Rattle.gv_atom.proofs.Pieces.{same, last_byte, first_byte, cut, begins_there}
 use Rattle.gv_atom.proofs.PfLaw.{pf_parts}
 

@@ -3,10 +3,10 @@ use Rattle.std.specs.Prelude.{◌≡◌, ℕ, Bool, true, false, List, [], ◌�
 use Rattle.gv_atom.specs.declared.fault.AtomKind.TheVariants.{Category, Package, Version, Repo, Slot, Item}
 use Rattle.gv_atom.specs.declared.atom.Block.TheVariants.{No, Weak, Strong}
 use Rattle.gv_atom.specs.declared.items.Ask.TheVariants.{On, Off, Same, Opposite, OnIf, OffIfNot}
-use Rattle.gv_atom.specs.AtomMatch.{matches}
-use Rattle.gv_atom.specs.AtomRead.{atom_fault, read_atom}
-use Rattle.gv_atom.specs.AtomText.{atom_text, is_atom}
-use Rattle.gv_atom.specs.UseItems.{asked, asks_parent, is_blocker}
+use Rattle.gv_atom.specs.Matching.{matches}
+use Rattle.gv_atom.specs.Reading.{atom_fault, read_atom}
+use Rattle.gv_atom.specs.Grammar.{atom_text, is_atom}
+use Rattle.gv_atom.specs.Items.{asked, asks_parent, is_blocker}
 
 -- whether an atom of these bytes matches x/y of this version in slot 0
 abbrev match_y : List ℕ → List ℕ → Option Bool

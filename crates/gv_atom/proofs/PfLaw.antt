@@ -4,7 +4,7 @@ use Rattle.std.proofs.Math.Seq.{take-append_seam, drop-append-add}
 use Rattle.std.specs.Str.{byte}
 use Rattle.gv_version.specs.Laws.{Divides, IsDivided}
 use Rattle.gv_version.specs.Names.{is_package, split_pf}
-use Rattle.gv_version.specs.VersionForm.{is_version}
+use Rattle.gv_version.specs.Form.{is_version}
 
 pub record PfParts (text : List ℕ) (at : ℕ) : Type 0 where
   pub written : take at text ++ byte "-" ∷ drop (at + 1) text ≡ text

@@ -6,8 +6,8 @@ use Rattle.std.specs.Str.{byte}
 use Rattle.gv_atom.specs.declared.items.UseItem.{UseItem}
 use Rattle.gv_atom.specs.declared.items.Ask.{Ask}
 use Rattle.gv_atom.specs.declared.items.Ask.TheVariants.{On, Off, Same, Opposite, OnIf, OffIfNot}
-use Rattle.gv_atom.specs.AtomPrinting.{sign_text, end_text, more_items_text}
-use Rattle.gv_atom.specs.AtomText.{asked_text, item_text, items_text}
+use Rattle.gv_atom.specs.Printing.{sign_text, end_text, more_items_text}
+use Rattle.gv_atom.specs.Grammar.{asked_text, item_text, items_text}
 
 pub asked_parts : (ask : Ask) (text : List ℕ) → asked_text ask text ≡ sign_text ask ++ (text ++ end_text ask)
 asked_parts On text = sym (append-nil text)

@@ -5,9 +5,9 @@ use Rattle.gv_version.specs.Laws.{IsDivided}
 use Rattle.gv_atom.specs.declared.atom.Atom.{Atom}
 use Rattle.gv_atom.specs.declared.fault.AtomFault.{AtomFault}
 use Rattle.gv_atom.specs.declared.fault.AtomFault.TheVariants.{Bad, NoMemory}
-use Rattle.gv_atom.specs.AtomFaults.{IsFaultOf, GivesAtom}
-use Rattle.gv_atom.specs.AtomRead.{Fault, divided, atom_fault, atom_in, read_atom}
-use Rattle.gv_atom.specs.AtomText.{IsAtomOf}
+use Rattle.gv_atom.specs.Fault.{IsFaultOf, GivesAtom}
+use Rattle.gv_atom.specs.Reading.{Fault, divided, atom_fault, atom_in, read_atom}
+use Rattle.gv_atom.specs.Grammar.{IsAtomOf}
 use Rattle.gv_atom.proofs.AtomLaw.{read_is_written}
 use Rattle.gv_atom.proofs.Pieces.{some_is, not_none}
 use Rattle.gv_atom.proofs.WrittenLaw.{written_again}

@@ -8,7 +8,7 @@ use Rattle.gv_base.specs.Cut.{from_first, up_to_first}
 use Rattle.gv_version.specs.Bytes.{is_one_of, begins_with}
 use Rattle.gv_version.specs.Names.{is_slot, is_category_byte}
 use Rattle.gv_atom.specs.declared.atom.SlotNeed.TheVariants.{Both}
-use Rattle.gv_atom.specs.AtomRead.{need_of}
+use Rattle.gv_atom.specs.Reading.{need_of}
 use Rattle.gv_atom.proofs.Lacks.{lacks_failing, split_none}
 use Rattle.gv_atom.proofs.Pieces.{cut}
 

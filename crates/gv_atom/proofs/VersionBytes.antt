@@ -7,7 +7,7 @@ use Rattle.std.specs.List.{list_all, join_with_byte, cons_option, slice_split}
 use Rattle.std.specs.Str.{bytes_eq, byte}
 use Rattle.gv_version.specs.Bytes.{is_digit, is_small, is_one_of, begins_with, front, behind}
 use Rattle.gv_version.specs.Names.{is_package, is_package_byte, ends_in_version}
-use Rattle.gv_version.specs.VersionForm.{Parts, HasForm, kind_text, kind_named, suffix_of, is_in_suffixes, is_number_byte, after_small, suffix_text, revision_text, version_text, is_number, are_numbers, are_parts, parts_of, has_form, long_run, is_version}
+use Rattle.gv_version.specs.Form.{Parts, HasForm, kind_text, kind_named, suffix_of, is_in_suffixes, is_number_byte, after_small, suffix_text, revision_text, version_text, is_number, are_numbers, are_parts, parts_of, has_form, long_run, is_version}
 use Rattle.gv_atom.proofs.Pieces.{same, some_is, not_none}
 
 pub package_bytes : (name : List ℕ) → is_package name ≡ true → list_all is_package_byte name ≡ true

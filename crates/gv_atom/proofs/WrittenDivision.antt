@@ -8,8 +8,8 @@ use Rattle.gv_atom.specs.declared.atom.Block.{Block}
 use Rattle.gv_atom.specs.declared.atom.Block.TheVariants.{No, Weak, Strong}
 use Rattle.gv_atom.specs.declared.atom.CompareOp.{CompareOp}
 use Rattle.gv_atom.specs.declared.atom.CompareOp.TheVariants as ops
-use Rattle.gv_atom.specs.AtomRead.{block_of, block_length, op_of, op_length, division_of, divided}
-use Rattle.gv_atom.specs.AtomText.{block_text, op_text}
+use Rattle.gv_atom.specs.Reading.{block_of, block_length, op_of, op_length, division_of, divided}
+use Rattle.gv_atom.specs.Grammar.{block_text, op_text}
 use Rattle.gv_atom.proofs.Lacks.{lacks, front_none, rest_none, front_there, rest_there}
 
 -- a byte that begins neither a block nor an operator

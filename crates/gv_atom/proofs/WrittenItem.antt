@@ -10,9 +10,9 @@ use Rattle.gv_version.specs.Names.{is_flag, is_flag_byte}
 use Rattle.gv_atom.specs.declared.items.UseItem.{UseItem}
 use Rattle.gv_atom.specs.declared.items.Ask.{Ask}
 use Rattle.gv_atom.specs.declared.items.Ask.TheVariants.{On, Off, Same, Opposite, OnIf, OffIfNot}
-use Rattle.gv_atom.specs.AtomPrinting.{sign_text, end_text}
-use Rattle.gv_atom.specs.AtomRead.{named, item_of}
-use Rattle.gv_atom.specs.AtomText.{default_text, asked_text, item_text}
+use Rattle.gv_atom.specs.Printing.{sign_text, end_text}
+use Rattle.gv_atom.specs.Reading.{named, item_of}
+use Rattle.gv_atom.specs.Grammar.{default_text, asked_text, item_text}
 use Rattle.gv_atom.proofs.Lacks.{lacks, lacks_failing, lacks_both, other, not_true, front_none, rest_none, front_there, rest_there}
 use Rattle.gv_atom.proofs.LastByte.{ends_added, last_off, no_end}
 use Rattle.gv_atom.proofs.PrintedItems.{asked_parts}

@@ -8,9 +8,9 @@ use Rattle.gv_version.specs.Names.{is_flag}
 use Rattle.gv_atom.specs.declared.items.UseItem.{UseItem}
 use Rattle.gv_atom.specs.declared.items.Ask.{Ask}
 use Rattle.gv_atom.specs.declared.items.Ask.TheVariants.{On, Off, Same, Opposite, OnIf, OffIfNot}
-use Rattle.gv_atom.specs.AtomPrinting.{sign_text, end_text, more_items_text}
-use Rattle.gv_atom.specs.AtomRead.{item_of, is_bracket, is_bracketed, bad_item, bad_items, items_of}
-use Rattle.gv_atom.specs.AtomText.{item_text, items_text}
+use Rattle.gv_atom.specs.Printing.{sign_text, end_text, more_items_text}
+use Rattle.gv_atom.specs.Reading.{item_of, is_bracket, is_bracketed, bad_item, bad_items, items_of}
+use Rattle.gv_atom.specs.Grammar.{item_text, items_text}
 use Rattle.gv_atom.proofs.Lacks.{lacks, lacks_both, not_true, split_none, split_there}
 use Rattle.gv_atom.proofs.LastByte.{ends_added, last_off}
 use Rattle.gv_atom.proofs.PrintedItems.{joined}

@@ -9,8 +9,8 @@ use Rattle.gv_version.specs.Laws.{IsDivided}
 use Rattle.gv_version.specs.Names.{is_category, is_category_byte, is_package, is_flag}
 use Rattle.gv_atom.specs.declared.atom.Atom.{Atom}
 use Rattle.gv_atom.specs.declared.items.UseItem.{UseItem}
-use Rattle.gv_atom.specs.AtomRead.{Division, block_length, op_length, divided, division_of, category_of, after_slash, name_fault, slot_fault, item_fault, division_fault, atom_fault, atom_in}
-use Rattle.gv_atom.specs.AtomText.{block_text, op_text, version_part, slot_text, items_text, item_text, atom_text, is_versioned, is_slotted, is_atom}
+use Rattle.gv_atom.specs.Reading.{Division, block_length, op_length, divided, division_of, category_of, after_slash, name_fault, slot_fault, item_fault, division_fault, atom_fault, atom_in}
+use Rattle.gv_atom.specs.Grammar.{block_text, op_text, version_part, slot_text, items_text, item_text, atom_text, is_versioned, is_slotted, is_atom}
 use Rattle.gv_atom.specs.Laws.{IsWritten}
 use Rattle.gv_atom.proofs.Lacks.{lacks, lacks_failing, lacks_both, other, not_true, front_there, rest_there}
 use Rattle.gv_atom.proofs.Splitting.{slot_bytes}

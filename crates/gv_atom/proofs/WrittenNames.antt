@@ -7,12 +7,12 @@ use Rattle.std.specs.Str.{byte}
 use Rattle.gv_base.specs.Cut.{ends_in}
 use Rattle.gv_version.specs.Laws.{Divides, IsDivided}
 use Rattle.gv_version.specs.Names.{is_package, is_package_byte, split_pf}
-use Rattle.gv_version.specs.VersionForm.{has_form, long_run, is_version}
+use Rattle.gv_version.specs.Form.{has_form, long_run, is_version}
 use Rattle.gv_atom.specs.declared.atom.CompareOp.{CompareOp}
 use Rattle.gv_atom.specs.declared.atom.CompareOp.TheVariants as ops
-use Rattle.gv_atom.specs.AtomNaming.{tail_fault, name_in, version_in}
-use Rattle.gv_atom.specs.AtomRead.{is_starred, pf_part, hyphen_of}
-use Rattle.gv_atom.specs.AtomText.{version_part, is_versioned}
+use Rattle.gv_atom.specs.Naming.{tail_fault, name_in, version_in}
+use Rattle.gv_atom.specs.Reading.{is_starred, pf_part, hyphen_of}
+use Rattle.gv_atom.specs.Grammar.{version_part, is_versioned}
 use Rattle.gv_atom.proofs.Lacks.{lacks, lacks_failing, lacks_both}
 use Rattle.gv_atom.proofs.LastByte.{ends_added, last_off, no_end}
 use Rattle.gv_atom.proofs.VersionBytes.{package_bytes, is_version_byte, version_bytes, form_of}

@@ -10,8 +10,8 @@ use Rattle.gv_atom.specs.declared.atom.SlotNeed.{SlotNeed}
 use Rattle.gv_atom.specs.declared.atom.SlotNeed.TheVariants.{Any, Slot, Both}
 use Rattle.gv_atom.specs.declared.atom.SlotMark.{SlotMark}
 use Rattle.gv_atom.specs.declared.atom.SlotMark.TheVariants.{Plain, Star, Equals}
-use Rattle.gv_atom.specs.AtomRead.{need_of, slot_of, double_colon}
-use Rattle.gv_atom.specs.AtomText.{slot_text, is_slotted}
+use Rattle.gv_atom.specs.Reading.{need_of, slot_of, double_colon}
+use Rattle.gv_atom.specs.Grammar.{slot_text, is_slotted}
 use Rattle.gv_atom.proofs.Lacks.{lacks, lacks_failing, lacks_both, other, not_true, split_none, split_there}
 use Rattle.gv_atom.proofs.LastByte.{ends_added, last_off, no_end}
 use Rattle.gv_atom.proofs.Splitting.{slot_bytes, with_sub}

@@ -1,8 +1,8 @@
 -- What a reader may rely on of the definitions of atoms; over all texts and atoms.
 use Rattle.std.specs.Prelude.{◌≡◌, ℕ, List, Some, None}
 use Rattle.gv_atom.specs.declared.atom.Atom.{Atom}
-use Rattle.gv_atom.specs.AtomText.{atom_text, IsAtomOf}
-use Rattle.gv_atom.specs.AtomRead.{atom_fault, read_atom}
+use Rattle.gv_atom.specs.Grammar.{atom_text, IsAtomOf}
+use Rattle.gv_atom.specs.Reading.{atom_fault, read_atom}
 
 -- the bytes are read as an atom, and are that atom's text
 pub record IsRead (bytes : List ℕ) : Type 0 where

@@ -1,9 +1,9 @@
-pub mod AtomFaults
-pub mod AtomMatch
-pub mod AtomNaming
-pub mod AtomPrinting
-pub mod AtomRead
-pub mod AtomReading
-pub mod AtomText
+pub mod Fault
+pub mod Grammar
+pub mod Items
 pub mod Laws
-pub mod UseItems
+pub mod Matching
+pub mod Naming
+pub mod Parts
+pub mod Printing
+pub mod Reading

@@ -1,6 +1,6 @@
 //! An atom, as it was written.
 ghost use Rattle.std.specs.Prelude.{◌≡◌, IfOk};
-ghost use Rattle.gv_atom.specs.UseItems.{is_blocker};
+ghost use Rattle.gv_atom.specs.Items.{is_blocker};
 
 use crate::UseItems;
 use gv_base::{NoMemory, Text};

@@ -1,7 +1,7 @@
 //! The parts of an atom's bytes. O(bytes), without memory.
 ghost use Rattle.std.specs.Prelude.{◌≡◌, ◌+◌, drop, length};
-ghost use Rattle.gv_atom.specs.AtomRead.{block_length, block_of, divided, op_length, op_of};
-ghost use Rattle.gv_atom.specs.AtomReading.{end_place, shown};
+ghost use Rattle.gv_atom.specs.Reading.{block_length, block_of, divided, op_length, op_of};
+ghost use Rattle.gv_atom.specs.Parts.{end_place, shown};
 
 use crate::cutting::cut;
 use crate::{Block, CompareOp};
@@ -16,6 +16,25 @@ pub(crate) struct Division<'a> {
     pub(crate) name_part: &'a [u8],
     pub(crate) slot_part: &'a [u8],
     pub(crate) item_part: &'a [u8],
+}
+
+/// Divides the bytes.
+pub(crate) fn divide(bytes: &[u8]) -> Division<'_>
+    ensures parts { shown result ≡ divided bytes.now }
+    ensures end { end_place (divided bytes.now) ≡ length bytes.now }
+{
+    let (block, behind_block) = split_block(bytes);
+    let (op, rest) = split_op(behind_block);
+    let (front, item_part) = cut(b'[', rest);
+    let (name_part, slot_part) = cut(b':', front);
+    Division {
+        block,
+        op,
+        start: bytes.len() - rest.len(),
+        name_part,
+        slot_part,
+        item_part,
+    }
 }
 
 fn split_block(bytes: &[u8]) -> (Block, &[u8])
@@ -44,24 +63,5 @@ fn split_op(bytes: &[u8]) -> (Option<CompareOp>, &[u8])
         [b'~', rest @ ..] => (Some(CompareOp::Same), rest),
         [b'>', rest @ ..] => (Some(CompareOp::Greater), rest),
         _ => (None, bytes),
-    }
-}
-
-/// Divides the bytes.
-pub(crate) fn divide(bytes: &[u8]) -> Division<'_>
-    ensures parts { shown result ≡ divided bytes.now }
-    ensures end { end_place (divided bytes.now) ≡ length bytes.now }
-{
-    let (block, behind_block) = split_block(bytes);
-    let (op, rest) = split_op(behind_block);
-    let (front, item_part) = cut(b'[', rest);
-    let (name_part, slot_part) = cut(b':', front);
-    Division {
-        block,
-        op,
-        start: bytes.len() - rest.len(),
-        name_part,
-        slot_part,
-        item_part,
     }
 }

@@ -1,6 +1,6 @@
 //! Why bytes are no atom.
 ghost use Rattle.std.specs.Prelude.{Some};
-ghost use Rattle.gv_atom.specs.AtomReading.{IsPartFault};
+ghost use Rattle.gv_atom.specs.Parts.{IsPartFault};
 
 use gv_base::NoMemory;
 use std::alloc::AllocError;

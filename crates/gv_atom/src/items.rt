@@ -1,6 +1,6 @@
 //! The USE items of an atom.
 ghost use Rattle.std.specs.Prelude.{◌≡◌, [], ◌∷◌, ◌++◌, IfOk, OnOk, OnErr};
-ghost use Rattle.gv_atom.specs.UseItems.{asked, asks_parent};
+ghost use Rattle.gv_atom.specs.Items.{asked, asks_parent};
 
 use gv_base::{NoMemory, Text};
 use std::alloc::Global;

@@ -2,8 +2,8 @@
 ghost use Rattle.std.specs.Prelude.{◌≡◌, ◌+◌, ◌==◌, ◌<◌, ◌^◌, filter_map, length, None, Some, IfOk, IfErr, MatchOption};
 ghost use Rattle.std.specs.List.{list_any, slice_split};
 ghost use Rattle.std.specs.Str.{byte};
-ghost use Rattle.gv_atom.specs.AtomRead.{bad_item, bad_items, default_of, is_bracket, item_fault, item_of, items_of, named, placed};
-ghost use Rattle.gv_atom.specs.AtomReading.{end_place, shown, IsPartFault};
+ghost use Rattle.gv_atom.specs.Reading.{bad_item, bad_items, default_of, is_bracket, item_fault, item_of, items_of, named, placed};
+ghost use Rattle.gv_atom.specs.Parts.{end_place, shown, IsPartFault};
 
 use crate::cutting::{cut, ends_in, split_first, without_last};
 use crate::dividing::Division;
@@ -12,6 +12,17 @@ use crate::{Ask, AtomFault, AtomKind, UseItem, UseItems};
 use gv_base::{NoMemory, Text};
 use gv_version::is_flag;
 use std::alloc::Global;
+
+/// The items between the brackets.
+pub(crate) fn read_items(alloc: Global, division: &Division<'_>) -> Result<UseItems, AtomFault>
+    requires { end_place (shown division.now) < 2 ^ 64 }
+    ensures none { IfOk result (λ items. item_fault (shown division.now) ≡ None) }
+    ensures items { IfOk result (λ items. items ≡ items_of division.now.item_part.now) }
+    ensures bad { IfErr result (IsPartFault (item_fault (shown division.now))) }
+{
+    let at = division.start + division.name_part.len() + division.slot_part.len();
+    read_part(alloc, at, division.item_part)
+}
 
 // `(+)`, `(-)` or nothing.
 fn default_of(text: &[u8]) -> Option<Option<bool>>
@@ -125,15 +136,4 @@ fn read_part(alloc: Global, at: usize, part: &[u8]) -> Result<UseItems, AtomFaul
             }
         }
     }
-}
-
-/// The items between the brackets.
-pub(crate) fn read_items(alloc: Global, division: &Division<'_>) -> Result<UseItems, AtomFault>
-    requires { end_place (shown division.now) < 2 ^ 64 }
-    ensures none { IfOk result (λ items. item_fault (shown division.now) ≡ None) }
-    ensures items { IfOk result (λ items. items ≡ items_of division.now.item_part.now) }
-    ensures bad { IfErr result (IsPartFault (item_fault (shown division.now))) }
-{
-    let at = division.start + division.name_part.len() + division.slot_part.len();
-    read_part(alloc, at, division.item_part)
 }

@@ -1,8 +1,8 @@
 //! A law of the definitions: the function does nothing, and its contract holds of all texts and atoms.
 ghost use Rattle.std.specs.Prelude.{◌≡◌, ℕ, List, None, true};
 ghost use Rattle.gv_atom.specs.declared.atom.Atom.{Atom};
-ghost use Rattle.gv_atom.specs.AtomText.{is_atom};
-ghost use Rattle.gv_atom.specs.AtomRead.{atom_fault};
+ghost use Rattle.gv_atom.specs.Grammar.{is_atom};
+ghost use Rattle.gv_atom.specs.Reading.{atom_fault};
 ghost use Rattle.gv_atom.specs.Laws.{IsRead, IsWritten};
 
 use gv_version::split_pf_law;

@@ -1,10 +1,28 @@
 //! Which packages an atom matches. O(bytes), without memory.
 ghost use Rattle.std.specs.Prelude.{◌≡◌};
-ghost use Rattle.gv_atom.specs.AtomMatch.{matches, op_holds, slot_holds, version_holds};
+ghost use Rattle.gv_atom.specs.Matching.{matches, op_holds, slot_holds, version_holds};
 
 use crate::{Atom, CompareOp, SlotNeed};
 use gv_base::Text;
 use gv_version::{Version, begins, compare, same_but_revision};
+
+/// Whether the atom asks for a package of this category, name, version, slot and sub-slot (PMS chapter 8). Whether it
+/// blocks, and its USE items, play no part.
+pub fn matches(
+    atom: &Atom,
+    category: &Text,
+    name: &Text,
+    version: &Version,
+    slot: &Text,
+    sub: &Text,
+) -> bool
+    ensures { result ≡ matches atom.now category.now name.now version.now slot.now sub.now }
+{
+    atom.category == *category
+        && atom.name == *name
+        && version_holds(atom, version)
+        && slot_holds(&atom.slot, slot, sub)
+}
 
 fn op_holds(op: CompareOp, star: bool, wanted: &Version, version: &Version) -> bool
     ensures { result ≡ op_holds op star wanted.now version.now }
@@ -45,22 +63,4 @@ fn slot_holds(need: &SlotNeed, slot: &Text, sub: &Text) -> bool
             sub: wanted_sub,
         } => wanted == slot && wanted_sub == sub,
     }
-}
-
-/// Whether the atom asks for a package of this category, name, version, slot and sub-slot (PMS chapter 8). Whether it
-/// blocks, and its USE items, play no part.
-pub fn matches(
-    atom: &Atom,
-    category: &Text,
-    name: &Text,
-    version: &Version,
-    slot: &Text,
-    sub: &Text,
-) -> bool
-    ensures { result ≡ matches atom.now category.now name.now version.now slot.now sub.now }
-{
-    atom.category == *category
-        && atom.name == *name
-        && version_holds(atom, version)
-        && slot_holds(&atom.slot, slot, sub)
 }

@@ -1,8 +1,8 @@
 //! The name part of an atom: category, package name, version. O(bytes).
 ghost use Rattle.std.specs.Prelude.{◌≡◌, ◌+◌, ◌<◌, ◌^◌, true, false, length, take, drop, None, IfOk, IfErr, IfSome, MatchOption};
-ghost use Rattle.gv_atom.specs.AtomNaming.{has_no_category, pf_fault, tail_fault, AreNames, IsPf, IsTail};
-ghost use Rattle.gv_atom.specs.AtomRead.{after_slash, category_of, is_starred, name_fault, pf_part};
-ghost use Rattle.gv_atom.specs.AtomReading.{end_place, shown, IsPartFault};
+ghost use Rattle.gv_atom.specs.Naming.{has_no_category, pf_fault, tail_fault, AreNames, IsPf, IsTail};
+ghost use Rattle.gv_atom.specs.Reading.{after_slash, category_of, is_starred, name_fault, pf_part};
+ghost use Rattle.gv_atom.specs.Parts.{end_place, shown, IsPartFault};
 
 use crate::cutting::{cut, ends_in, without_last};
 use crate::dividing::Division;
@@ -26,6 +26,32 @@ pub(crate) struct Names {
 pub(crate) struct Tail {
     pub(crate) name: Text,
     pub(crate) version: Option<Version>,
+}
+
+/// The category, the name and the version of the name part.
+pub(crate) fn read_names(alloc: Global, division: &Division<'_>) -> Result<Names, AtomFault>
+    requires { end_place (shown division.now) < 2 ^ 64 }
+    ensures names { IfOk result (AreNames (shown division.now)) }
+    ensures bad { IfErr result (IsPartFault (name_fault (shown division.now))) }
+{
+    match split_category(division.name_part) {
+        Some((category, text)) => {
+            let tail = read_tail(
+                alloc,
+                division.op,
+                division.start + category.len() + 1,
+                text,
+            )?;
+            let (_, star) = split_star(division.op, text);
+            Ok(Names {
+                category: Text::of(alloc, category)?,
+                name: tail.name,
+                version: tail.version,
+                star,
+            })
+        }
+        None => Err(bad(AtomKind::Category, division.start)),
+    }
 }
 
 // The category and what follows its slash, where both are there.
@@ -113,31 +139,5 @@ fn read_tail(
             read_pf(alloc, at, pf)
         }
         None => read_name(alloc, at, text),
-    }
-}
-
-/// The category, the name and the version of the name part.
-pub(crate) fn read_names(alloc: Global, division: &Division<'_>) -> Result<Names, AtomFault>
-    requires { end_place (shown division.now) < 2 ^ 64 }
-    ensures names { IfOk result (AreNames (shown division.now)) }
-    ensures bad { IfErr result (IsPartFault (name_fault (shown division.now))) }
-{
-    match split_category(division.name_part) {
-        Some((category, text)) => {
-            let tail = read_tail(
-                alloc,
-                division.op,
-                division.start + category.len() + 1,
-                text,
-            )?;
-            let (_, star) = split_star(division.op, text);
-            Ok(Names {
-                category: Text::of(alloc, category)?,
-                name: tail.name,
-                version: tail.version,
-                star,
-            })
-        }
-        None => Err(bad(AtomKind::Category, division.start)),
     }
 }

@@ -1,12 +1,27 @@
 //! The text of an atom. O(bytes).
 ghost use Rattle.std.specs.Prelude.{◌≡◌, ◌++◌, IfOk, OnOk};
-ghost use Rattle.gv_atom.specs.AtomPrinting.{end_text, more_items_text, sign_text};
-ghost use Rattle.gv_atom.specs.AtomText.{atom_text, block_text, default_text, item_text, items_text, mark_text, op_text, slot_text, version_part};
+ghost use Rattle.gv_atom.specs.Printing.{end_text, more_items_text, sign_text};
+ghost use Rattle.gv_atom.specs.Grammar.{atom_text, block_text, default_text, item_text, items_text, mark_text, op_text, slot_text, version_part};
 
 use crate::{Ask, Atom, Block, CompareOp, SlotMark, SlotNeed, UseItem};
 use gv_base::{NoMemory, Text};
 use gv_version::Version;
 use std::alloc::Global;
+
+/// The text of the atom, from which it is read.
+pub fn print_atom(alloc: Global, atom: &Atom) -> Result<Text, NoMemory>
+    ensures { IfOk result (λ text. text ≡ atom_text atom.now) }
+{
+    let mut text = Text::of(alloc, block_text(atom.block))?;
+    text.append(op_text(atom.op))?;
+    text.append(atom.category.bytes())?;
+    text.append(b"/")?;
+    text.append(atom.name.bytes())?;
+    append_version(&mut text, &atom.version, atom.star)?;
+    append_slot(&mut text, &atom.slot, atom.mark)?;
+    append_items(&mut text, atom.items.items())?;
+    Ok(text)
+}
 
 fn block_text(block: Block) -> &'static [u8]
     ensures { result.now ≡ block_text block }
@@ -151,19 +166,4 @@ fn append_items(text: &mut Text, items: &[UseItem]) -> Result<(), NoMemory>
             Ok(())
         }
     }
-}
-
-/// The text of the atom, from which it is read.
-pub fn print_atom(alloc: Global, atom: &Atom) -> Result<Text, NoMemory>
-    ensures { IfOk result (λ text. text ≡ atom_text atom.now) }
-{
-    let mut text = Text::of(alloc, block_text(atom.block))?;
-    text.append(op_text(atom.op))?;
-    text.append(atom.category.bytes())?;
-    text.append(b"/")?;
-    text.append(atom.name.bytes())?;
-    append_version(&mut text, &atom.version, atom.star)?;
-    append_slot(&mut text, &atom.slot, atom.mark)?;
-    append_items(&mut text, atom.items.items())?;
-    Ok(text)
 }

@@ -3,8 +3,8 @@ ghost use Rattle.std.specs.Prelude.{◌≡◌, ◌+◌, ◌==◌, ◌<◌, ◌^�
 ghost use Rattle.std.specs.List.{slice_split};
 ghost use Rattle.std.specs.Str.{byte};
 ghost use Rattle.gv_version.specs.Bytes.{begins_with};
-ghost use Rattle.gv_atom.specs.AtomRead.{double_colon, need_of, slot_fault, slot_of, with_mark};
-ghost use Rattle.gv_atom.specs.AtomReading.{end_place, shown, IsPartFault};
+ghost use Rattle.gv_atom.specs.Reading.{double_colon, need_of, slot_fault, slot_of, with_mark};
+ghost use Rattle.gv_atom.specs.Parts.{end_place, shown, IsPartFault};
 
 use crate::cutting::{ends_in, split_first, without_last};
 use crate::dividing::Division;
@@ -13,6 +13,26 @@ use crate::{AtomFault, AtomKind, SlotMark, SlotNeed};
 use gv_base::{NoMemory, Text};
 use gv_version::is_slot;
 use std::alloc::Global;
+
+/// The slot that the slot part asks for, and its mark. A repository behind `::` is refused first.
+pub(crate) fn read_slot(
+    alloc: Global,
+    division: &Division<'_>,
+) -> Result<(SlotNeed, SlotMark), AtomFault>
+    requires { end_place (shown division.now) < 2 ^ 64 }
+    ensures none { IfOk result (λ slot. slot_fault (shown division.now) ≡ None) }
+    ensures slot { IfOk result (λ slot. slot_of division.now.slot_part.now ≡ Some slot) }
+    ensures bad { IfErr result (IsPartFault (slot_fault (shown division.now))) }
+{
+    let at = division.start + division.name_part.len();
+    if let Some(place) = double_colon(at, division.slot_part) {
+        return Err(bad(AtomKind::Repo, place));
+    }
+    match slot_of(alloc, division.slot_part)? {
+        Some(slot) => Ok(slot),
+        None => Err(bad(AtomKind::Slot, at)),
+    }
+}
 
 // The place of the first `::`, where the part begins at the place.
 fn double_colon(at: usize, part: &[u8]) -> Option<usize>
@@ -80,25 +100,5 @@ fn slot_of(alloc: Global, part: &[u8]) -> Result<Option<(SlotNeed, SlotMark)>, N
                 Ok(with_mark(SlotMark::Plain, need_of(alloc, text)?))
             }
         }
-    }
-}
-
-/// The slot that the slot part asks for, and its mark. A repository behind `::` is refused first.
-pub(crate) fn read_slot(
-    alloc: Global,
-    division: &Division<'_>,
-) -> Result<(SlotNeed, SlotMark), AtomFault>
-    requires { end_place (shown division.now) < 2 ^ 64 }
-    ensures none { IfOk result (λ slot. slot_fault (shown division.now) ≡ None) }
-    ensures slot { IfOk result (λ slot. slot_of division.now.slot_part.now ≡ Some slot) }
-    ensures bad { IfErr result (IsPartFault (slot_fault (shown division.now))) }
-{
-    let at = division.start + division.name_part.len();
-    if let Some(place) = double_colon(at, division.slot_part) {
-        return Err(bad(AtomKind::Repo, place));
-    }
-    match slot_of(alloc, division.slot_part)? {
-        Some(slot) => Ok(slot),
-        None => Err(bad(AtomKind::Slot, at)),
     }
 }

@@ -7,7 +7,8 @@ use Rattle.std.specs.FinMap.{entries, keys}
 use Rattle.gv_base.specs.ByteMap.{seen_entry}
 use Rattle.gv_base.specs.Cut.{up_to_first}
 use Rattle.gv_base.specs.FileMap.{FileMap}
-use Rattle.gv_base.specs.Listing.{below, next_part, files_below, is_folder, names_below, IsListing}
+use Rattle.gv_base.specs.Listing.{below, next_part, is_folder, names_below, IsListing}
+use Rattle.gv_base.specs.PrivateWords.{files_below}
 use Rattle.gv_base.specs.Order.{in_order}
 use Rattle.gv_base.proofs.ByteMaps.{Bytes}
 use Rattle.gv_base.proofs.TextOrder.{ascending-distinct, in_order-ascends, in_order-ascending}

@@ -4,7 +4,7 @@ use Rattle.std.proofs.lemmas.List.{take_all}
 use Rattle.std.specs.List.{prefix_len, onto_first, join_with_byte, list_any, list_all}
 use Rattle.gv_base.specs.declared.pieces.Cut.{Cut}
 use Rattle.gv_base.specs.Pieces.{separates, pieces}
-use Rattle.gv_base.specs.Words.{each_behind}
+use Rattle.gv_base.specs.PrivateWords.{each_behind}
 
 abbrev pub front_len : Cut → List ℕ → ℕ
 front_len cut bytes = prefix_len (λ b. not (separates cut b)) bytes

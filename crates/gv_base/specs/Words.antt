@@ -1,5 +1,5 @@
 -- The lines, words and tokens of a text.
-use Rattle.std.specs.Prelude.{ℕ, Bool, true, false, not, List, [], ◌∷◌, ◌++◌, filter}
+use Rattle.std.specs.Prelude.{ℕ, Bool, true, false, not, List, [], ◌∷◌, filter}
 use Rattle.std.specs.List.{join_with_byte}
 use Rattle.gv_base.specs.declared.pieces.Cut.{Cut}
 use Rattle.gv_base.specs.declared.pieces.Cut.TheVariants.{Lines, Words, Tokens}
@@ -28,8 +28,3 @@ lines_of bytes = pieces Lines bytes
 -- the words with one space between
 abbrev pub joined : List (List ℕ) → List ℕ
 joined words = join_with_byte 32 words
-
--- each text behind the byte
-abbrev pub each_behind : ℕ → List (List ℕ) → List ℕ
-each_behind byte [] = []
-each_behind byte (text ∷ texts) = byte ∷ (text ++ each_behind byte texts)

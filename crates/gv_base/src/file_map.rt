@@ -6,7 +6,7 @@ ghost use Rattle.std.specs.Prelude.{◌≡◌, map, IfOk, OnOk, OnErr};
 ghost use Rattle.std.specs.FinMap as finite;
 ghost use Rattle.std.specs.Option.{option_copied};
 ghost use Rattle.gv_base.specs.ByteMap.{seen_entry};
-ghost use Rattle.gv_base.specs.Listing.{files_below};
+ghost use Rattle.gv_base.specs.PrivateWords.{files_below};
 
 use crate::{NoMemory, Text};
 use std::alloc::Global;

@@ -3,7 +3,8 @@
 //! Each call costs O(the bytes of what it reads), and copies them once.
 ghost use Rattle.std.specs.Prelude.{◌≡◌, ◌++◌, IfOk, OnOk};
 ghost use Rattle.std.specs.List.{join_with_byte};
-ghost use Rattle.gv_base.specs.Words.{each_behind, filled, words_of, tokens_of};
+ghost use Rattle.gv_base.specs.Words.{filled, words_of, tokens_of};
+ghost use Rattle.gv_base.specs.PrivateWords.{each_behind};
 
 use crate::{Cut, NoMemory, Text, Texts, next_piece};
 use std::alloc::Global;

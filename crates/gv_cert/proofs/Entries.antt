@@ -14,9 +14,9 @@ use Rattle.std.specs.Ordering.{is_eq, match_ordering}
 use Rattle.std.specs.Str.{bytes_eq}
 use Rattle.gv_base.specs.ByteMap.{Bytes, key_cmp, has_bytes}
 use Rattle.gv_base.specs.Order.{byte_cmp}
-use Rattle.gv_cert.specs.Indexes.{length_key, numbers_from, numbers_in, numbers_of}
+use Rattle.gv_cert.specs.Index.{length_key, numbers_from, numbers_in, numbers_of}
 use Rattle.gv_cert.specs.declared.index.Queries.{Queries}
-use Rattle.gv_cert.specs.Records.{KnownRecord}
+use Rattle.gv_cert.specs.Known.{KnownRecord}
 
 has_bytes_eq : (q : List ℕ) (k : Bytes) → has_bytes q k ≡ bytes_eq q k.items
 has_bytes_eq q k = is_eq-slice_cmp q k.items

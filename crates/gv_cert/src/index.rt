@@ -5,7 +5,7 @@
 //! seed would let him pick such as all collide; an order has no worse case than this.
 ghost use Rattle.std.specs.Prelude.{◌≡◌, ◌++◌, ◌∷◌, [], ℕ, List, if◌then◌else◌, OnOk, OnErr};
 ghost use Rattle.std.specs.Str.{bytes_eq};
-ghost use Rattle.gv_cert.specs.Indexes.{length_key, numbers_at, numbers_in};
+ghost use Rattle.gv_cert.specs.Index.{length_key, numbers_at, numbers_in};
 
 use gv_base::NoMemory;
 use std::alloc::Global;
@@ -94,12 +94,6 @@ impl Queries {
     }
 }
 
-fn length_key(query: &[u8]) -> [u8; 8]
-    ensures { result ≡ length_key query.now }
-{
-    (query.len() as u64).to_be_bytes()
-}
-
 /// The numbers of the records of each query.
 #[derive(Drop)]
 pub(crate) struct Index {
@@ -153,4 +147,10 @@ impl Index {
         }
         Ok(())
     }
+}
+
+fn length_key(query: &[u8]) -> [u8; 8]
+    ensures { result ≡ length_key query.now }
+{
+    (query.len() as u64).to_be_bytes()
 }

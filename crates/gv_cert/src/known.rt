@@ -4,8 +4,8 @@
 //! queries for n distinct ones, and a binary search among the numbers of the query's records. The rest costs O(1), and a
 //! copy what is copied.
 ghost use Rattle.std.specs.Prelude.{◌≡◌, ◌+◌, nat_lt, ◌<◌, ◌^◌, List, [], ◌∷◌, ◌++◌, length, filter, IfOk, OnOk, OnErr};
-ghost use Rattle.gv_cert.specs.Indexes.{is_from};
-ghost use Rattle.gv_cert.specs.Records.{record_at, answer_at, Finds};
+ghost use Rattle.gv_cert.specs.Index.{is_from};
+ghost use Rattle.gv_cert.specs.Known.{record_at, answer_at, Finds};
 ghost use Rattle.std.specs.List.Sorted.{IsPartitionedBy};
 
 use crate::index::Index;
@@ -21,39 +21,11 @@ pub(crate) struct Kept {
 }
 
 impl Model for Kept {
-    ghost use Rattle.gv_cert.specs.Records.{KnownRecord};
+    ghost use Rattle.gv_cert.specs.Known.{KnownRecord};
 
     ghost Value = { KnownRecord };
 
     ghost view = { λ k. record { query = k.query; answer = k.answer } };
-}
-
-fn kept_of(alloc: Global, query: &[u8], answer: &[u8]) -> Result<Kept, NoMemory>
-    ensures { IfOk result (λ kept. kept ≡ record { query = query.now; answer = answer.now }) }
-{
-    let query = Text::of(alloc, query)?;
-    let answer = Text::of(alloc, answer)?;
-    Ok(Kept { query, answer })
-}
-
-// The number of the next record of a list with so many.
-fn next_number(len: usize) -> Result<u32, NoMemory>
-    ensures number { IfOk result (λ number. number ≡ len) }
-    ensures room { IfOk result (λ number. number + 1 < 2 ^ 32) }
-{
-    if len >= u32::MAX as usize {
-        return Err(NoMemory);
-    }
-    Ok(len as u32)
-}
-
-// The ascending numbers from `from` on.
-fn numbers_from(numbers: &[u32], from: u32) -> &[u32]
-    requires { IsPartitionedBy (λ n. nat_lt n from) numbers.now }
-    ensures { result.now ≡ filter (is_from from) numbers.now }
-{
-    let first = numbers.partition_point(|number| *number < from);
-    &numbers[first..]
 }
 
 /// Records of query bytes and answer bytes, in order, numbered from 0; at most `2^32 - 1`. A query may stand in several
@@ -67,8 +39,8 @@ pub struct Known {
 
 impl Model for Known {
     ghost use Rattle.std.specs.Prelude.{List};
-    ghost use Rattle.gv_cert.specs.Records.{KnownRecord};
-    ghost use Rattle.gv_cert.specs.Indexes.{IsIndexed};
+    ghost use Rattle.gv_cert.specs.Known.{KnownRecord};
+    ghost use Rattle.gv_cert.specs.Index.{IsIndexed};
 
     ghost Value = { List KnownRecord };
 
@@ -158,4 +130,32 @@ impl Known {
         }
         Ok(known)
     }
+}
+
+fn kept_of(alloc: Global, query: &[u8], answer: &[u8]) -> Result<Kept, NoMemory>
+    ensures { IfOk result (λ kept. kept ≡ record { query = query.now; answer = answer.now }) }
+{
+    let query = Text::of(alloc, query)?;
+    let answer = Text::of(alloc, answer)?;
+    Ok(Kept { query, answer })
+}
+
+// The number of the next record of a list with so many.
+fn next_number(len: usize) -> Result<u32, NoMemory>
+    ensures number { IfOk result (λ number. number ≡ len) }
+    ensures room { IfOk result (λ number. number + 1 < 2 ^ 32) }
+{
+    if len >= u32::MAX as usize {
+        return Err(NoMemory);
+    }
+    Ok(len as u32)
+}
+
+// The ascending numbers from `from` on.
+fn numbers_from(numbers: &[u32], from: u32) -> &[u32]
+    requires { IsPartitionedBy (λ n. nat_lt n from) numbers.now }
+    ensures { result.now ≡ filter (is_from from) numbers.now }
+{
+    let first = numbers.partition_point(|number| *number < from);
+    &numbers[first..]
 }

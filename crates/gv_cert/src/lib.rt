@@ -5,7 +5,7 @@
 //!   records of that query.
 //! - `file`: the bytes of a certificate file. Reading takes any bytes; both are linear in the bytes.
 //! - `claim`: the bytes of one answer. Both ways are linear in the bytes, and no memory is taken for what isn't there.
-//! - `law`: that a file has one list of records and bytes one answer.
+//! - `laws`: that a file has one list of records and bytes one answer.
 //!
 //! Stands on the logs of `gv_refute` and the lists of `gv_logic`. Nothing here says that an answer is right: its log
 //! has to be checked. The layers above use what `read_known` and `read_answer` take for a file and an answer, and the
@@ -16,7 +16,7 @@ mod claim;
 mod file;
 mod index;
 mod known;
-mod law;
+mod laws;
 mod reader;
 #[cfg(test)]
 mod tests;
@@ -25,4 +25,4 @@ mod writing;
 pub use claim::{Claim, read_answer, write_answer};
 pub use file::{read_known, write_known};
 pub use known::Known;
-pub use law::{answer_law, file_law};
+pub use laws::{answer_law, file_law};

@@ -2,9 +2,9 @@
 use Rattle.std.proofs.Common.{◌≡◌, ℕ, ◌+◌, arith, List, [], ◌++◌, filter, refl, sym, ap, ◌∙◌, append-nil}
 use Rattle.std.specs.Prelude.{filter_map}
 use Rattle.gv_base.specs.Counts.{Counts}
-use Rattle.gv_cert.specs.Records.{KnownRecord}
-use Rattle.gv_report.specs.Ordered.{ordered}
-use Rattle.gv_report.specs.Selected.{selected}
+use Rattle.gv_cert.specs.Known.{KnownRecord}
+use Rattle.gv_report.specs.Distinct.{ordered}
+use Rattle.gv_report.specs.Selecting.{selected}
 use Rattle.gv_report.specs.declared.options.Options.{Options}
 use Rattle.gv_report.specs.declared.report.Report.{Report}
 use Rattle.gv_checks.specs.Answered.{IsJudged}

@@ -2,7 +2,7 @@
 use Rattle.std.proofs.Common.{List, Option, Some, None}
 use Rattle.std.specs.Option.{MatchOption}
 use Rattle.gv_expr.specs.Dep.{Dep}
-use Rattle.gv_expr.specs.Req.{Req}
+use Rattle.gv_expr.specs.Required.{Req}
 use Rattle.gv_entry.specs.Allowed.{Parent}
 use Rattle.gv_entry.specs.Laws.{LeastAllowedLaw, LeastFailingLaw}
 use Rattle.gv_checks.specs.Asked.{IsLeastAsked, NoneAsked, least_asked}

@@ -13,15 +13,15 @@ use Rattle.gv_base.specs.Counts.{Counts}
 use Rattle.gv_base.specs.Order.{has_text}
 use Rattle.gv_base.specs.Steps.{after}
 use Rattle.gv_base.specs.declared.steps.Kind.TheVariants.{Solve}
-use Rattle.gv_cert.specs.AnswerBytes.{HasInputs, IsAnswer, IsLog, claim_bytes, log_of}
+use Rattle.gv_cert.specs.Claim.{HasInputs, IsAnswer, IsLog, claim_bytes, log_of}
 use Rattle.gv_cert.specs.Backing.{IsFirstBacked, NoneBacked}
-use Rattle.gv_cert.specs.Records.{Finds, HasQuery, IsNext, KnownRecord}
+use Rattle.gv_cert.specs.Known.{Finds, HasQuery, IsNext, KnownRecord}
 use Rattle.gv_cert.specs.declared.claim.Claim.{Claim}
 use Rattle.gv_cert.specs.declared.claim.Claim.TheVariants.{Refuted, Found}
 use Rattle.gv_logic.specs.Bytes.{circuit_bytes}
 use Rattle.gv_logic.specs.Circuits.{Circuit, IsCircuit}
 use Rattle.gv_logic.specs.Laws.{CircuitLaw}
-use Rattle.gv_query.specs.Asked.{Comes, IsAnswered, IsSpent}
+use Rattle.gv_query.specs.Asking.{Comes, IsAnswered, IsSpent}
 use Rattle.gv_query.specs.Truth.{IsSo}
 use Rattle.gv_checks.specs.Asked.{found_bits}
 use Rattle.gv_checks.specs.Certs.{Cert, HasBacked, IsCert, cert_record, counts_after, first_uses, has_gates, new_count, with_use}

@@ -3,7 +3,7 @@ use Rattle.std.proofs.Common.{◌≡◌, ◌≢◌, ◌⊎◌, inl, inr, ℕ, Bo
 use Rattle.std.proofs.lemmas.Bool.{false≢true}
 use Rattle.std.specs.Option.{MatchOption}
 use Rattle.gv_expr.specs.Dep.{Dep}
-use Rattle.gv_expr.specs.Req.{Req}
+use Rattle.gv_expr.specs.Required.{Req}
 use Rattle.gv_base.specs.Least.{HasNone, IsLeast, Lesser}
 use Rattle.gv_entry.specs.Allowed.{Parent, is_allowed, is_failing}
 use Rattle.gv_entry.specs.Laws.{LeastLaw}

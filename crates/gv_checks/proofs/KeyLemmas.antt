@@ -12,12 +12,12 @@ use Rattle.gv_lower.specs.Around.{alone}
 use Rattle.gv_lower.specs.Keys.{class_key, required_key}
 use Rattle.gv_lower.specs.Sites.{ClassSites, RequiredFlags}
 use Rattle.gv_usestate.specs.Kinds.{IsOneOf}
-use Rattle.gv_visible.specs.Told.{VisiblePkgs}
-use Rattle.gv_checks.specs.Judged.{case_of}
+use Rattle.gv_visible.specs.Candidates.{VisiblePkgs}
+use Rattle.gv_checks.specs.Context.{case_of}
 use Rattle.gv_checks.specs.Keys.{ArePartsOf, AreSitesOf, HasSites, flags_in, sites_at, sites_in}
 use Rattle.gv_checks.specs.Queries.{query_of}
 use Rattle.gv_checks.specs.Shared.{asked_key, key_of}
-use Rattle.gv_checks.specs.declared.judged.JudgedPkg.{JudgedPkg}
+use Rattle.gv_checks.specs.declared.context.JudgedPkg.{JudgedPkg}
 use Rattle.gv_checks.specs.declared.keys.PkgSites.{PkgSites}
 
 -- what an option that was made of another one tells of it

@@ -4,14 +4,14 @@ use Rattle.std.specs.Prelude.{option_map, Result, Ok, Err}
 use Rattle.gv_base.specs.Counts.{Counts}
 use Rattle.gv_base.specs.Steps.{after}
 use Rattle.gv_base.specs.declared.steps.Kind.TheVariants.{Lower}
-use Rattle.gv_cert.specs.AnswerBytes.{IsAnswer, claim_bytes}
+use Rattle.gv_cert.specs.Claim.{IsAnswer, claim_bytes}
 use Rattle.gv_cert.specs.Backing.{IsFirstBacked}
-use Rattle.gv_cert.specs.Records.{KnownRecord}
+use Rattle.gv_cert.specs.Known.{KnownRecord}
 use Rattle.gv_cert.specs.declared.claim.Claim.{Claim}
 use Rattle.gv_logic.specs.Circuits.{Circuit}
 use Rattle.gv_lower.specs.declared.query.LowerFault.{LowerFault}
 use Rattle.gv_lower.specs.declared.query.LowerFault.TheVariants.{Flags, Weight, NoMemory}
-use Rattle.gv_query.specs.Asked.{IsAnswered}
+use Rattle.gv_query.specs.Asking.{IsAnswered}
 use Rattle.gv_query.specs.Truth.{IsSo}
 use Rattle.gv_report.specs.declared.options.Options.{Options}
 use Rattle.gv_checks.specs.Answered.{CountsKnown, Knows}

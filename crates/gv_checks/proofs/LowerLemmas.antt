@@ -7,7 +7,7 @@ use Rattle.std.proofs.lemmas.Option.{slice_get_within}
 use Rattle.gv_entry.specs.Allowed.{Parent}
 use Rattle.gv_entry.specs.Queries.{class_in}
 use Rattle.gv_expr.specs.Dep.{Dep}
-use Rattle.gv_expr.specs.Req.{Req}
+use Rattle.gv_expr.specs.Required.{Req}
 use Rattle.gv_facts.specs.Classes.{has_class}
 use Rattle.gv_facts.specs.declared.kinds.Class.{Class}
 use Rattle.gv_facts.specs.declared.kinds.Class.TheVariants.{Required}
@@ -16,12 +16,12 @@ use Rattle.gv_lower.specs.Around.{parent_of}
 use Rattle.gv_lower.specs.Lowered.{IsQuery, Lowered, LoweredAllowed, LoweredFailing}
 use Rattle.gv_lower.specs.declared.query.LowerFault.{LowerFault}
 use Rattle.gv_lower.specs.declared.query.Query.{Query}
-use Rattle.gv_visible.specs.Told.{Candidates, pkgs_of}
+use Rattle.gv_visible.specs.Candidates.{Candidates, pkgs_of}
 use Rattle.gv_checks.specs.Asked.{asked_flags, asked_gates, asked_items, asked_weight}
 use Rattle.gv_checks.specs.Classes.{is_whole}
-use Rattle.gv_checks.specs.Judged.{AreAround, case_of}
+use Rattle.gv_checks.specs.Context.{AreAround, case_of}
 use Rattle.gv_checks.specs.Queries.{flags_of, gates_of, has_query, items_of, query_of, required_of, weight_of}
-use Rattle.gv_checks.specs.declared.judged.JudgedPkg.{JudgedPkg}
+use Rattle.gv_checks.specs.declared.context.JudgedPkg.{JudgedPkg}
 
 abbrev AskedLowered : Parent → List Req → Option (List Dep) → Result Query LowerFault → Type 0
 AskedLowered c required class r = Lowered (asked_flags c required class) (asked_weight c required class) (IsQuery (asked_gates c required class) (asked_flags c required class) (asked_items c required class)) r

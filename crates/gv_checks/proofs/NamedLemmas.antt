@@ -5,7 +5,7 @@ use Rattle.std.specs.List.{AllByRecursion}
 use Rattle.std.proofs.lemmas.Bool.{and_parts}
 use Rattle.std.proofs.lemmas.Option.{slice_get-get_or}
 use Rattle.std.proofs.lemmas.Grind.{flat_map-append}
-use Rattle.gv_cert.specs.Records.{KnownRecord}
+use Rattle.gv_cert.specs.Known.{KnownRecord}
 use Rattle.gv_entry.specs.declared.entry.Body.{Body}
 use Rattle.gv_facts.specs.declared.kinds.Class.{Class}
 use Rattle.gv_facts.specs.declared.kinds.Level.{Level}

@@ -4,7 +4,7 @@ use Rattle.std.specs.Prelude.{Err}
 use Rattle.gv_base.specs.Counts.{Counts}
 use Rattle.gv_base.specs.Steps.{after}
 use Rattle.gv_base.specs.declared.steps.Kind.TheVariants.{Lower}
-use Rattle.gv_cert.specs.Records.{KnownRecord}
+use Rattle.gv_cert.specs.Known.{KnownRecord}
 use Rattle.gv_checks.specs.Answered.{CountsOne}
 use Rattle.gv_checks.specs.Limits.{Cause}
 use Rattle.gv_checks.specs.Queries.{Query}

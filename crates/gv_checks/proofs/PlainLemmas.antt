@@ -15,8 +15,8 @@ use Rattle.gv_facts.specs.Visible.{matches_pkg}
 use Rattle.gv_facts.specs.declared.kinds.Class.{Class}
 use Rattle.gv_facts.specs.declared.pkg.Pkg.{Pkg}
 use Rattle.gv_facts.specs.declared.profile.Profile.{Profile}
-use Rattle.gv_report.specs.Keywords.{has_keyword}
-use Rattle.gv_report.specs.Selected.{in_profiles, selected}
+use Rattle.gv_report.specs.Keyword.{has_keyword}
+use Rattle.gv_report.specs.Selecting.{in_profiles, selected}
 use Rattle.gv_report.specs.declared.keyword.Keyword.TheVariants as keywords
 use Rattle.gv_report.specs.declared.options.Options.{Options}
 use Rattle.gv_report.specs.declared.report.Report.{Report}

@@ -4,7 +4,7 @@ use Rattle.std.specs.Prelude.{option_map, unwrap_or, slice_get}
 use Rattle.std.specs.Option.{MatchOption}
 use Rattle.gv_expr.specs.Dep.{Dep}
 use Rattle.gv_expr.specs.DepGrammar.{item_text}
-use Rattle.gv_expr.specs.Req.{Req}
+use Rattle.gv_expr.specs.Required.{Req}
 use Rattle.gv_entry.specs.Allowed.{Parent, assignment, first_failing, item_holds}
 use Rattle.gv_entry.specs.Queries.{class_flags}
 use Rattle.gv_logic.specs.Circuits.{Circuit, at, values}

@@ -8,8 +8,8 @@ use Rattle.gv_expr.specs.Dep.{Dep}
 use Rattle.gv_facts.specs.Classes.{has_class}
 use Rattle.gv_facts.specs.declared.kinds.Class.{Class}
 use Rattle.gv_facts.specs.declared.kinds.Class.TheVariants.{Required, Depend, Bdepend, Rdepend, Pdepend, Idepend}
-use Rattle.gv_report.specs.Keywords.{has_keyword}
-use Rattle.gv_report.specs.Selected.{in_profiles, selected}
+use Rattle.gv_report.specs.Keyword.{has_keyword}
+use Rattle.gv_report.specs.Selecting.{in_profiles, selected}
 use Rattle.gv_report.specs.declared.keyword.Keyword.{Keyword}
 use Rattle.gv_report.specs.declared.keyword.Keyword.TheVariants as keywords
 use Rattle.gv_report.specs.declared.options.Options.{Options}

@@ -6,7 +6,7 @@ use Rattle.std.proofs.lemmas.Option.{slice_get-get_or}
 use Rattle.gv_entry.specs.Allowed.{Parent}
 use Rattle.gv_entry.specs.Queries.{class_in}
 use Rattle.gv_expr.specs.Dep.{Dep}
-use Rattle.gv_expr.specs.Req.{Req}
+use Rattle.gv_expr.specs.Required.{Req}
 use Rattle.gv_facts.specs.declared.kinds.Class.{Class}
 use Rattle.gv_logic.specs.Bytes.{circuit_bytes}
 use Rattle.gv_lower.specs.Keys.{HaveSameAllowed, HaveSameFailing, query_key, required_key}

@@ -11,7 +11,7 @@ use Rattle.gv_facts.specs.Visible.{judged}
 use Rattle.gv_report.specs.declared.options.Options.{Options}
 use Rattle.gv_report.specs.declared.report.Report.{Report}
 use Rattle.gv_usestate.specs.Kinds.{IsOneOf}
-use Rattle.gv_visible.specs.Told.{VisiblePkgs}
+use Rattle.gv_visible.specs.Candidates.{VisiblePkgs}
 use Rattle.gv_checks.specs.Cases.{Case, Member, case_at, case_in}
 use Rattle.gv_checks.specs.Plain.{told_case, told_in}
 use Rattle.gv_checks.specs.Walks.{seen}

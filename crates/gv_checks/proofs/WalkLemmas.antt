@@ -6,7 +6,7 @@ use Rattle.std.proofs.lemmas.List.{get_or-map, length-map}
 use Rattle.std.proofs.lemmas.Option.{slice_get-get_or}
 use Rattle.std.proofs.lemmas.Grind.{flat_map-append}
 use Rattle.gv_base.specs.Counts.{Counts}
-use Rattle.gv_cert.specs.Records.{KnownRecord}
+use Rattle.gv_cert.specs.Known.{KnownRecord}
 use Rattle.gv_entry.specs.declared.entry.Body.{Body}
 use Rattle.gv_facts.specs.declared.kinds.Class.{Class}
 use Rattle.gv_facts.specs.declared.kinds.Level.{Level}
@@ -18,7 +18,7 @@ use Rattle.gv_checks.specs.Cases.{Case, Member, case_at, case_in, cases_of, memb
 use Rattle.gv_checks.specs.Progress.{IsAt, Judges, Stops}
 use Rattle.gv_checks.specs.Queries.{Query, case_queries, is_asked, query_of}
 use Rattle.gv_checks.specs.Walks.{IsWalk, seen}
-use Rattle.gv_visible.specs.Told.{VisiblePkgs}
+use Rattle.gv_visible.specs.Candidates.{VisiblePkgs}
 use Rattle.gv_checks.specs.declared.fault.JudgeFault.{JudgeFault}
 use Rattle.gv_checks.specs.declared.judging.Progress.{Progress}
 use Rattle.gv_load.specs.declared.loading.Repo.{Repo}

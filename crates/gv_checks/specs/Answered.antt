@@ -4,16 +4,16 @@ use Rattle.std.specs.List.{AllByRecursion}
 use Rattle.gv_base.specs.Counts.{Counts}
 use Rattle.gv_base.specs.Steps.{after}
 use Rattle.gv_base.specs.declared.steps.Kind.TheVariants.{Lower, Solve}
-use Rattle.gv_cert.specs.AnswerBytes.{IsAnswer, claim_bytes}
+use Rattle.gv_cert.specs.Claim.{IsAnswer, claim_bytes}
 use Rattle.gv_cert.specs.Backing.{NoneBacked}
-use Rattle.gv_cert.specs.Records.{KnownRecord}
+use Rattle.gv_cert.specs.Known.{KnownRecord}
 use Rattle.gv_cert.specs.declared.claim.Claim.{Claim}
 use Rattle.gv_logic.specs.Circuits.{IsCircuit}
 use Rattle.gv_lower.specs.declared.query.LowerFault.{LowerFault}
 use Rattle.gv_lower.specs.declared.query.LowerFault.TheVariants as lowering
 use Rattle.gv_lower.specs.declared.query.LowerFault.TheVariants.{Flags, Weight}
 use Rattle.gv_lower.specs.Weights.{capped}
-use Rattle.gv_query.specs.Asked.{IsAnswered}
+use Rattle.gv_query.specs.Asking.{IsAnswered}
 use Rattle.gv_report.specs.declared.options.Options.{Options}
 use Rattle.gv_checks.specs.Certs.{AreCerts, Cert, cert_record, counts_after}
 use Rattle.gv_checks.specs.Limits.{Cause, IsWithin, Refuses}

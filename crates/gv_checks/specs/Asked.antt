@@ -1,7 +1,7 @@
 -- What a query asks: for an allowed assignment, or for one that is failing for a class; the least, if there is one.
 use Rattle.std.specs.Prelude.{ℕ, Bool, List, [], length, Option, None, Some}
 use Rattle.gv_expr.specs.Dep.{Dep}
-use Rattle.gv_expr.specs.Req.{Req}
+use Rattle.gv_expr.specs.Required.{Req}
 use Rattle.gv_entry.specs.Allowed.{Parent, is_allowed, is_failing}
 use Rattle.gv_entry.specs.Least.{least}
 use Rattle.gv_entry.specs.LeastAssignments.{IsLeastAllowed, IsLeastFailing, NoneAllowed, NoneFailing}

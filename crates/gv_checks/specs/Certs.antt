@@ -6,11 +6,11 @@ use Rattle.gv_base.specs.Counts.{Counts}
 use Rattle.gv_base.specs.Order.{has_text}
 use Rattle.gv_logic.specs.Bytes.{circuit_bytes}
 use Rattle.gv_logic.specs.Circuits.{Circuit}
-use Rattle.gv_cert.specs.AnswerBytes.{IsAnswer, claim_bytes}
+use Rattle.gv_cert.specs.Claim.{IsAnswer, claim_bytes}
 use Rattle.gv_cert.specs.Backing.{IsBackedAt}
-use Rattle.gv_cert.specs.Records.{KnownRecord}
+use Rattle.gv_cert.specs.Known.{KnownRecord}
 use Rattle.gv_cert.specs.declared.claim.Claim.{Claim}
-use Rattle.gv_query.specs.Asked.{IsAnswered}
+use Rattle.gv_query.specs.Asking.{IsAnswered}
 
 abbrev pub has_gates : List Circuit → Circuit → Bool
 has_gates gs g = has_text (map circuit_bytes gs) (circuit_bytes g)

@@ -1,10 +1,10 @@
 -- The limits of a query, and why judging is refused.
 use Rattle.std.specs.Prelude.{◌≡◌, ◌⊎◌, ℕ, ◌<◌, ◌≤◌, List, ◌∷◌, ◌++◌, length}
 use Rattle.std.specs.List.{AllByRecursion}
-use Rattle.gv_cert.specs.Records.{KnownRecord}
+use Rattle.gv_cert.specs.Known.{KnownRecord}
 use Rattle.gv_facts.specs.declared.pkg.Pkg.{Pkg}
-use Rattle.gv_query.specs.Asked.{IsSpent}
-use Rattle.gv_report.specs.ReportText.{package_text}
+use Rattle.gv_query.specs.Asking.{IsSpent}
+use Rattle.gv_report.specs.Line.{package_text}
 use Rattle.gv_checks.specs.Queries.{Query, flags_of, gates_of, query_name, weight_of}
 use Rattle.gv_lower.specs.declared.query.LowerFault.{LowerFault}
 use Rattle.gv_lower.specs.declared.query.LowerFault.TheVariants as lowering

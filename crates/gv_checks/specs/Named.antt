@@ -1,6 +1,6 @@
 -- Queries by their names.
 use Rattle.std.specs.Prelude.{◌≡◌, ℕ, List, true, Some, slice_get, Option, Result, Ok, Err}
-use Rattle.gv_cert.specs.Records.{KnownRecord}
+use Rattle.gv_cert.specs.Known.{KnownRecord}
 use Rattle.gv_facts.specs.Visible.{judged}
 use Rattle.gv_facts.specs.declared.profile.Profile.{Profile}
 use Rattle.gv_lower.specs.declared.query.LowerFault.{LowerFault}

@@ -4,13 +4,13 @@ use Rattle.std.specs.Option.{option_map_or}
 use Rattle.gv_base.specs.Order.{has_text}
 use Rattle.gv_atom.specs.declared.atom.Atom.{Atom}
 use Rattle.gv_expr.specs.Dep.{Deps}
-use Rattle.gv_expr.specs.Mentioned.{wanted_atoms}
+use Rattle.gv_expr.specs.Mentions.{wanted_atoms}
 use Rattle.gv_entry.specs.declared.entry.Body.{Body}
 use Rattle.gv_facts.specs.Visible.{matches_pkg}
 use Rattle.gv_facts.specs.declared.kinds.Class.{Class}
 use Rattle.gv_facts.specs.declared.pkg.Pkg.{Pkg}
-use Rattle.gv_report.specs.Selected.{selected}
-use Rattle.gv_report.specs.Keywords.{has_keyword}
+use Rattle.gv_report.specs.Selecting.{selected}
+use Rattle.gv_report.specs.Keyword.{has_keyword}
 use Rattle.gv_report.specs.declared.keyword.Keyword.TheVariants as keywords
 use Rattle.gv_report.specs.declared.options.Options.{Options}
 use Rattle.gv_report.specs.declared.report.Report.{Report}

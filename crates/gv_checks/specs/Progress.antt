@@ -2,12 +2,12 @@
 use Rattle.std.specs.Prelude.{◌≡◌, ℕ, true, ◌<◌, ◌≤◌, List, [], ◌∷◌, ◌++◌, length, map, filter_map, Some, slice_get, Result, Ok, Err, if◌then◌else◌}
 use Rattle.std.specs.List.{AllByRecursion}
 use Rattle.gv_base.specs.Counts.{Counts}
-use Rattle.gv_cert.specs.Records.{KnownRecord}
+use Rattle.gv_cert.specs.Known.{KnownRecord}
 use Rattle.gv_cert.specs.declared.claim.Claim.{Claim}
 use Rattle.gv_logic.specs.Circuits.{Circuit, IsCircuit}
-use Rattle.gv_query.specs.Asked.{IsSpent}
+use Rattle.gv_query.specs.Asking.{IsSpent}
 use Rattle.gv_query.specs.Truth.{IsSo}
-use Rattle.gv_query.specs.Asked.{MayCount}
+use Rattle.gv_query.specs.Asking.{MayCount}
 use Rattle.gv_base.specs.Steps.{after}
 use Rattle.gv_base.specs.declared.steps.Kind.TheVariants.{Solve}
 use Rattle.gv_report.specs.declared.report.Report.{Report}

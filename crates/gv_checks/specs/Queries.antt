@@ -1,7 +1,7 @@
 -- The queries of a repository under options, in their order.
 use Rattle.std.specs.Prelude.{ℕ, Bool, ◌&&◌, List, [], map, filter, flat_map, Option, Some, unwrap_or}
 use Rattle.gv_expr.specs.Dep.{Dep}
-use Rattle.gv_expr.specs.Req.{Req}
+use Rattle.gv_expr.specs.Required.{Req}
 use Rattle.gv_facts.specs.Classes.{has_class}
 use Rattle.gv_facts.specs.declared.kinds.Class.{Class}
 use Rattle.gv_facts.specs.declared.kinds.Class.TheVariants.{Required}
@@ -9,8 +9,8 @@ use Rattle.gv_facts.specs.declared.kinds.Status.{Status}
 use Rattle.gv_facts.specs.declared.kinds.Status.TheVariants.{Stable, Dev, Exp}
 use Rattle.gv_entry.specs.Allowed.{Parent}
 use Rattle.gv_entry.specs.Queries.{class_in}
-use Rattle.gv_report.specs.Keywords.{has_keyword}
-use Rattle.gv_report.specs.Selected.{in_profiles}
+use Rattle.gv_report.specs.Keyword.{has_keyword}
+use Rattle.gv_report.specs.Selecting.{in_profiles}
 use Rattle.gv_report.specs.declared.keyword.Keyword.{Keyword}
 use Rattle.gv_report.specs.declared.keyword.Keyword.TheVariants as keywords
 use Rattle.gv_report.specs.declared.options.Options.{Options}

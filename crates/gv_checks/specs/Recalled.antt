@@ -2,7 +2,7 @@
 use Rattle.std.specs.Prelude.{◌≡◌, ℕ, ◌+◌, List, ◌∷◌, ◌++◌, length, Result, Ok, Err}
 use Rattle.std.specs.List.{AllByRecursion}
 use Rattle.gv_cert.specs.Backing.{NoneBacked}
-use Rattle.gv_cert.specs.Records.{KnownRecord}
+use Rattle.gv_cert.specs.Known.{KnownRecord}
 use Rattle.gv_logic.specs.Circuits.{IsCircuit}
 use Rattle.gv_report.specs.declared.options.Options.{Options}
 use Rattle.gv_checks.specs.Certs.{HasBacked}

@@ -2,13 +2,13 @@
 use Rattle.std.specs.Prelude.{ℕ, Bool, true, false, not, ◌&&◌, if◌then◌else◌, List, [], ◌∷◌, ◌++◌, Option, None, Some, option_map, map, filter, flat_map, filter_map, unwrap_or, codes}
 use Rattle.std.specs.List.{list_any}
 use Rattle.gv_base.specs.Words.{joined}
-use Rattle.gv_atom.specs.AtomText.{atom_text}
+use Rattle.gv_atom.specs.Grammar.{atom_text}
 use Rattle.gv_atom.specs.declared.atom.Atom.{Atom}
 use Rattle.gv_expr.specs.Dep.{Dep, deps}
 use Rattle.gv_expr.specs.DepGrammar.{item_text}
-use Rattle.gv_expr.specs.Mentioned.{mentioned_dep, mentioned_required, wanted_atoms}
-use Rattle.gv_expr.specs.Req.{reqs}
-use Rattle.gv_expr.specs.ReqGrammar.{req_text}
+use Rattle.gv_expr.specs.Mentions.{mentioned_dep, mentioned_required, wanted_atoms}
+use Rattle.gv_expr.specs.Required.{reqs}
+use Rattle.gv_expr.specs.RequiredGrammar.{req_text}
 use Rattle.gv_facts.specs.Classes.{has_class}
 use Rattle.gv_facts.specs.Effective.{is_effective}
 use Rattle.gv_facts.specs.Visible.{matches_pkg}
@@ -19,8 +19,8 @@ use Rattle.gv_entry.specs.Allowed.{assignment, first_failing}
 use Rattle.gv_entry.specs.Queries.{class_in}
 use Rattle.gv_entry.specs.declared.entry.Body.{Body}
 use Rattle.gv_report.specs.Emitted.{reports_text}
-use Rattle.gv_report.specs.Ordered.{ordered}
-use Rattle.gv_report.specs.Selected.{selected}
+use Rattle.gv_report.specs.Distinct.{ordered}
+use Rattle.gv_report.specs.Selecting.{selected}
 use Rattle.gv_report.specs.declared.keyword.Keyword.TheVariants as keywords
 use Rattle.gv_report.specs.declared.options.Options.{Options}
 use Rattle.gv_report.specs.declared.report.Report.{Report}

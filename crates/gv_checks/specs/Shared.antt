@@ -8,7 +8,7 @@ use Rattle.gv_entry.specs.Allowed.{Parent}
 use Rattle.gv_entry.specs.Queries.{class_in}
 use Rattle.gv_entry.specs.declared.entry.Body.{Body}
 use Rattle.gv_expr.specs.Dep.{Dep}
-use Rattle.gv_expr.specs.Req.{Req}
+use Rattle.gv_expr.specs.Required.{Req}
 use Rattle.gv_facts.specs.declared.kinds.Class.{Class}
 use Rattle.gv_facts.specs.declared.pkg.Pkg.{Pkg}
 use Rattle.gv_logic.specs.Bytes.{circuit_bytes}
@@ -16,7 +16,7 @@ use Rattle.gv_lower.specs.Keys.{query_key, required_key}
 use Rattle.gv_lower.specs.Lowered.{IsQuery}
 use Rattle.gv_lower.specs.declared.query.Query as lowered
 use Rattle.gv_checks.specs.Asked.{asked_flags, asked_gates, asked_items, asked_weight}
-use Rattle.gv_cert.specs.Records.{KnownRecord}
+use Rattle.gv_cert.specs.Known.{KnownRecord}
 use Rattle.gv_logic.specs.Circuits.{Circuit, IsCircuit}
 use Rattle.gv_checks.specs.Certs.{HasBacked}
 use Rattle.gv_checks.specs.Limits.{Cause, IsWithin}

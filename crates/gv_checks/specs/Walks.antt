@@ -1,12 +1,12 @@
 -- A walk over queries: what is judged of them, and what is left.
 use Rattle.std.specs.Prelude.{◌≡◌, ℕ, List, Result}
 use Rattle.gv_base.specs.Counts.{Counts}
-use Rattle.gv_cert.specs.Records.{KnownRecord}
+use Rattle.gv_cert.specs.Known.{KnownRecord}
 use Rattle.gv_checks.specs.Progress.{IsSomewhere, Judges}
 use Rattle.gv_checks.specs.Queries.{Query}
 use Rattle.gv_facts.specs.declared.pkg.Pkg.{Pkg}
 use Rattle.gv_facts.specs.declared.profile.Profile.{Profile}
-use Rattle.gv_visible.specs.Told.{VisiblePkgs}
+use Rattle.gv_visible.specs.Candidates.{VisiblePkgs}
 use Rattle.gv_checks.specs.declared.fault.JudgeFault.{JudgeFault}
 use Rattle.gv_checks.specs.declared.judging.Progress.{Progress}
 

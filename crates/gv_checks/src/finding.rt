@@ -1,17 +1,38 @@
 //! The query of a name. O(profiles), and a look-up of the package's level in each profile of the name's line.
 ghost use Rattle.std.specs.Prelude.{◌≡◌, true, Some, slice_get, IfSome};
-ghost use Rattle.gv_checks.specs.Judged.{IsNumbered, case_of};
+ghost use Rattle.gv_checks.specs.Context.{IsNumbered, case_of};
 ghost use Rattle.gv_checks.specs.Named.{IsNamed};
 ghost use Rattle.gv_checks.specs.Queries.{has_query, query_of};
 
 use crate::QueryName;
-use crate::judged::JudgedPkg;
+use crate::context::JudgedPkg;
 use crate::judging::is_asked;
 use gv_entry::Body;
 use gv_facts::{Level, Pkg, Profile};
 use gv_load::Repo;
 use gv_report::Options;
 use gv_visible::judged;
+
+/// The package, with its profile and level, of the query of this name.
+pub(crate) fn find_named<'a>(
+    repo: &'a Repo,
+    name: &QueryName,
+    options: &Options,
+) -> Option<JudgedPkg<'a>>
+    ensures numbered { IfSome result IsNumbered }
+    ensures pkgs { IfSome result (λ judged. judged.pkgs.now ≡ repo.now.pkgs) }
+    ensures named { IfSome result (λ judged. IsNamed options.now repo.now name.now (query_of (case_of judged) name.now.class)) }
+    ensures has { IfSome result (λ judged. has_query (case_of judged) name.now.class ≡ true) }
+{
+    let number = name.package as usize;
+    let Some(pkg) = repo.pkgs.items().get(number) else {
+        return None;
+    };
+    let Some(body) = repo.bodies.items().get(number) else {
+        return None;
+    };
+    find_in(repo, pkg, body, repo.profiles.items(), name, options)
+}
 
 fn is_level(level: Level, other: Level) -> bool
     ensures { result ≡ true → level ≡ other }
@@ -60,25 +81,4 @@ fn find_in<'a>(
         }
     }
     None
-}
-
-/// The package, with its profile and level, of the query of this name.
-pub(crate) fn find_named<'a>(
-    repo: &'a Repo,
-    name: &QueryName,
-    options: &Options,
-) -> Option<JudgedPkg<'a>>
-    ensures numbered { IfSome result IsNumbered }
-    ensures pkgs { IfSome result (λ judged. judged.pkgs.now ≡ repo.now.pkgs) }
-    ensures named { IfSome result (λ judged. IsNamed options.now repo.now name.now (query_of (case_of judged) name.now.class)) }
-    ensures has { IfSome result (λ judged. has_query (case_of judged) name.now.class ≡ true) }
-{
-    let number = name.package as usize;
-    let Some(pkg) = repo.pkgs.items().get(number) else {
-        return None;
-    };
-    let Some(body) = repo.bodies.items().get(number) else {
-        return None;
-    };
-    find_in(repo, pkg, body, repo.profiles.items(), name, options)
 }

@@ -2,11 +2,11 @@
 ghost use Rattle.std.specs.Prelude.{◌≡◌, ◌≤◌, ◌+◌, ◌++◌, ◌∷◌, [], ℕ, List, true, map, filter, option_to_list, IfOk, IfErr, OnOk};
 ghost use Rattle.gv_base.specs.Steps.{after};
 ghost use Rattle.gv_base.specs.declared.steps.Kind.TheVariants.{Lower};
-ghost use Rattle.gv_cert.specs.Records.{KnownRecord};
-ghost use Rattle.gv_report.specs.ReportText.{package_text};
+ghost use Rattle.gv_cert.specs.Known.{KnownRecord};
+ghost use Rattle.gv_report.specs.Line.{package_text};
 ghost use Rattle.gv_lower.specs.Lowered.{IsQuery};
-ghost use Rattle.gv_visible.specs.Told.{test_of};
-ghost use Rattle.gv_checks.specs.Judged.{AreAround, case_of};
+ghost use Rattle.gv_visible.specs.Candidates.{test_of};
+ghost use Rattle.gv_checks.specs.Context.{AreAround, case_of};
 ghost use Rattle.gv_checks.specs.Keys.{ArePartsOf};
 ghost use Rattle.gv_checks.specs.Limits.{Cause, IsLimit, IsLimitOf, IsWithin};
 ghost use Rattle.gv_checks.specs.Shared.{AnswersKept, AreShared, IsLoweredAs};
@@ -14,7 +14,7 @@ ghost use Rattle.gv_checks.specs.Progress.{AreSome, IsSomewhere, Judges};
 ghost use Rattle.gv_checks.specs.Queries.{case_queries, flags_of, gates_of, has_query, is_asked, is_selected, is_told, items_of, query_name, query_of};
 
 use crate::classes::{classes, is_whole, query_keyword};
-use crate::judged::JudgedPkg;
+use crate::context::JudgedPkg;
 use crate::keys::PkgSites;
 use crate::laws::gates_law;
 use crate::lowering::lower_query;
@@ -62,35 +62,6 @@ pub(crate) fn name_of(judged: &JudgedPkg<'_>, class: Class) -> QueryName
     }
 }
 
-// CATEGORY/PF
-fn place_text(alloc: Global, pkg: &Pkg) -> Result<Text, NoMemory>
-    ensures { IfOk result (λ text. text ≡ package_text pkg.now.category pkg.now.pf) }
-{
-    let mut text = pkg.category.copy(alloc)?;
-    text.append(b"/")?;
-    text.append(pkg.pf.bytes())?;
-    Ok(text)
-}
-
-fn limit(alloc: Global, pkg: &Pkg, number: u64) -> JudgeFault
-    ensures { IsLimit pkg.now number result }
-{
-    match place_text(alloc, pkg) {
-        Ok(place) => JudgeFault::Limit { place, number },
-        Err(NoMemory) => JudgeFault::NoMemory,
-    }
-}
-
-fn limit_of(alloc: Global, pkg: &Pkg, fault: LowerFault) -> JudgeFault
-    ensures { IsLimitOf pkg.now fault result }
-{
-    match fault {
-        LowerFault::Flags { .. } => limit(alloc, pkg, 4096),
-        LowerFault::Weight { .. } => limit(alloc, pkg, 2_000_000),
-        LowerFault::NoMemory => JudgeFault::NoMemory,
-    }
-}
-
 /// The gates of the query, where it is within the limits.
 pub(crate) fn lowered<F: Fn(&Pkg) -> bool, L: Ledger>(
     alloc: Global,
@@ -109,15 +80,6 @@ pub(crate) fn lowered<F: Fn(&Pkg) -> bool, L: Ledger>(
     match lower_query(alloc, candidates, judged, class, steps) {
         Ok(query) => Ok(query),
         Err(fault) => Err(limit_of(alloc, judged.pkg, fault)),
-    }
-}
-
-fn add_report(reports: &mut Reports, report: Option<Report>) -> Result<(), NoMemory>
-    ensures { OnOk result (reports.new ≡ reports.old ++ option_to_list report) }
-{
-    match report {
-        Some(report) => reports.add(report),
-        None => Ok(()),
     }
 }
 
@@ -159,6 +121,76 @@ pub(crate) fn judge_query<F: Fn(&Pkg) -> bool, L: Ledger>(
     };
     shared.note(at, place);
     Ok(())
+}
+
+/// Whether reports of the keyword are selected in the context.
+pub(crate) fn is_told(options: &Options, judged: &JudgedPkg<'_>, keyword: Keyword) -> bool
+    ensures { result ≡ is_told options.now (case_of judged.now) keyword }
+{
+    let is_profile = match &options.profiles {
+        None => true,
+        Some(paths) => paths.has(judged.profile.path.bytes()),
+    };
+    options.keywords.has(keyword) && is_profile
+}
+
+/// Whether the query is one of those that the options select.
+pub(crate) fn is_asked(options: &Options, judged: &JudgedPkg<'_>, class: Class) -> bool
+    ensures { result ≡ is_asked options.now (case_of judged.now) class }
+{
+    let body = judged.body;
+    let is_there = has_class(judged.pkg.eapi, class)
+        && (is_whole(body, Class::Required) && is_whole(body, class));
+    is_there && is_selected(options, judged, class)
+}
+
+/// Adds the names of the queries of a package in a context.
+pub(crate) fn add_case_names(
+    options: &Options,
+    judged: &JudgedPkg<'_>,
+    names: &mut QueryNames,
+) -> Result<(), NoMemory>
+    ensures { OnOk result (names.new ≡ names.old ++ map query_name (case_queries options.now (case_of judged.now))) }
+{
+    add_names(options, judged, &classes(), names)
+}
+
+// CATEGORY/PF
+fn place_text(alloc: Global, pkg: &Pkg) -> Result<Text, NoMemory>
+    ensures { IfOk result (λ text. text ≡ package_text pkg.now.category pkg.now.pf) }
+{
+    let mut text = pkg.category.copy(alloc)?;
+    text.append(b"/")?;
+    text.append(pkg.pf.bytes())?;
+    Ok(text)
+}
+
+fn limit(alloc: Global, pkg: &Pkg, number: u64) -> JudgeFault
+    ensures { IsLimit pkg.now number result }
+{
+    match place_text(alloc, pkg) {
+        Ok(place) => JudgeFault::Limit { place, number },
+        Err(NoMemory) => JudgeFault::NoMemory,
+    }
+}
+
+fn limit_of(alloc: Global, pkg: &Pkg, fault: LowerFault) -> JudgeFault
+    ensures { IsLimitOf pkg.now fault result }
+{
+    match fault {
+        LowerFault::Flags { .. } => limit(alloc, pkg, 4096),
+        LowerFault::Weight { .. } => limit(alloc, pkg, 2_000_000),
+        LowerFault::NoMemory => JudgeFault::NoMemory,
+    }
+}
+
+fn add_report(reports: &mut Reports, report: Option<Report>) -> Result<(), NoMemory>
+    ensures { OnOk result (reports.new ≡ reports.old ++ option_to_list report) }
+{
+    match report {
+        Some(report) => reports.add(report),
+        None => Ok(()),
+    }
 }
 
 // Answers a query that was lowered; where its answer stands.
@@ -205,31 +237,10 @@ fn judge_kept<L: Ledger>(
     Ok(place)
 }
 
-/// Whether reports of the keyword are selected in the context.
-pub(crate) fn is_told(options: &Options, judged: &JudgedPkg<'_>, keyword: Keyword) -> bool
-    ensures { result ≡ is_told options.now (case_of judged.now) keyword }
-{
-    let is_profile = match &options.profiles {
-        None => true,
-        Some(paths) => paths.has(judged.profile.path.bytes()),
-    };
-    options.keywords.has(keyword) && is_profile
-}
-
 fn is_selected(options: &Options, judged: &JudgedPkg<'_>, class: Class) -> bool
     ensures { result ≡ is_selected options.now (case_of judged.now) class }
 {
     is_told(options, judged, query_keyword(judged.profile.status, class))
-}
-
-/// Whether the query is one of those that the options select.
-pub(crate) fn is_asked(options: &Options, judged: &JudgedPkg<'_>, class: Class) -> bool
-    ensures { result ≡ is_asked options.now (case_of judged.now) class }
-{
-    let body = judged.body;
-    let is_there = has_class(judged.pkg.eapi, class)
-        && (is_whole(body, Class::Required) && is_whole(body, class));
-    is_there && is_selected(options, judged, class)
 }
 
 fn add_names(
@@ -246,15 +257,4 @@ fn add_names(
         }
     }
     Ok(())
-}
-
-/// Adds the names of the queries of a package in a context.
-pub(crate) fn add_case_names(
-    options: &Options,
-    judged: &JudgedPkg<'_>,
-    names: &mut QueryNames,
-) -> Result<(), NoMemory>
-    ensures { OnOk result (names.new ≡ names.old ++ map query_name (case_queries options.now (case_of judged.now))) }
-{
-    add_names(options, judged, &classes(), names)
 }

@@ -5,12 +5,12 @@
 ghost use Rattle.std.specs.Prelude.{◌≡◌, ◌++◌, [], option_map, unwrap_or, IfOk, OnOk};
 ghost use Rattle.std.specs.Option.{option_copied};
 ghost use Rattle.gv_lower.specs.Keys.{required_key};
-ghost use Rattle.gv_checks.specs.Judged.{case_of};
+ghost use Rattle.gv_checks.specs.Context.{case_of};
 ghost use Rattle.gv_checks.specs.Keys.{ArePartsOf, AreSitesOf, HasSites, flags_in, sites_at, sites_in};
 ghost use Rattle.gv_checks.specs.Queries.{query_of};
 ghost use Rattle.gv_checks.specs.Shared.{key_of};
 
-use crate::judged::JudgedPkg;
+use crate::context::JudgedPkg;
 use crate::views::ProfileView;
 use gv_base::NoMemory;
 use gv_entry::Body;
@@ -30,35 +30,6 @@ pub(crate) struct PkgSites<'a> {
     pub(crate) rdepend: Option<ClassSites<'a>>,
     pub(crate) pdepend: Option<ClassSites<'a>>,
     pub(crate) idepend: Option<ClassSites<'a>>,
-}
-
-fn required_in<'a>(
-    alloc: Global,
-    ruled: &'a RuledFlags<'a>,
-    pkg: &'a Pkg,
-    required: &'a Option<UseExpr>,
-) -> Result<Option<RequiredFlags<'a>>, NoMemory>
-    ensures { IfOk result (λ flags. flags ≡ option_map (flags_in ruled.now pkg.now) required.now) }
-{
-    match required {
-        Some(required) => Ok(Some(RequiredFlags::new(alloc, ruled, pkg, required)?)),
-        None => Ok(None),
-    }
-}
-
-fn sites_in<'a>(
-    alloc: Global,
-    ruled: &'a RuledFlags<'a>,
-    pkg: &'a Pkg,
-    index: &PkgIndex<'a>,
-    class: &'a Option<DepExpr>,
-) -> Result<Option<ClassSites<'a>>, NoMemory>
-    ensures { IfOk result (λ sites. sites ≡ option_map (sites_in ruled.now pkg.now index.now) class.now) }
-{
-    match class {
-        Some(class) => Ok(Some(ClassSites::new(alloc, ruled, pkg, index, class)?)),
-        None => Ok(None),
-    }
 }
 
 impl<'a> PkgSites<'a> {
@@ -135,5 +106,34 @@ pub(crate) fn make_required_key(
     match &sites.required {
         None => Ok(()),
         Some(flags) => add_required_key(flags, states, judged.level, key),
+    }
+}
+
+fn required_in<'a>(
+    alloc: Global,
+    ruled: &'a RuledFlags<'a>,
+    pkg: &'a Pkg,
+    required: &'a Option<UseExpr>,
+) -> Result<Option<RequiredFlags<'a>>, NoMemory>
+    ensures { IfOk result (λ flags. flags ≡ option_map (flags_in ruled.now pkg.now) required.now) }
+{
+    match required {
+        Some(required) => Ok(Some(RequiredFlags::new(alloc, ruled, pkg, required)?)),
+        None => Ok(None),
+    }
+}
+
+fn sites_in<'a>(
+    alloc: Global,
+    ruled: &'a RuledFlags<'a>,
+    pkg: &'a Pkg,
+    index: &PkgIndex<'a>,
+    class: &'a Option<DepExpr>,
+) -> Result<Option<ClassSites<'a>>, NoMemory>
+    ensures { IfOk result (λ sites. sites ≡ option_map (sites_in ruled.now pkg.now index.now) class.now) }
+{
+    match class {
+        Some(class) => Ok(Some(ClassSites::new(alloc, ruled, pkg, index, class)?)),
+        None => Ok(None),
     }
 }

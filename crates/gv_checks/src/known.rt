@@ -5,14 +5,14 @@
 ghost use Rattle.std.specs.Prelude.{◌≡◌, true};
 ghost use Rattle.gv_base.specs.Steps.{after};
 ghost use Rattle.gv_base.specs.declared.steps.Kind.TheVariants.{Lower};
-ghost use Rattle.gv_visible.specs.Told.{test_of};
+ghost use Rattle.gv_visible.specs.Candidates.{test_of};
 ghost use Rattle.gv_checks.specs.Answered.{CountsKnown, Knows};
-ghost use Rattle.gv_checks.specs.Judged.{AreAround, IsNumbered, case_of};
+ghost use Rattle.gv_checks.specs.Context.{AreAround, IsNumbered, case_of};
 ghost use Rattle.gv_checks.specs.Named.{KnowsNamed};
 ghost use Rattle.gv_checks.specs.Queries.{has_query, query_of};
 
+use crate::context::JudgedPkg;
 use crate::finding::find_named;
-use crate::judged::JudgedPkg;
 use crate::lowering::lower_query;
 use crate::one::found_at;
 use crate::used::Answer;
@@ -26,6 +26,48 @@ use gv_query::first_backed;
 use gv_report::Options;
 use gv_visible::{Candidates, PkgIndex, visible};
 use std::alloc::Global;
+
+/// `known_one` over an index of the repository's packages.
+#[tactic(auto, using(crate::proofs::KnownLemmas::knows_named, crate::proofs::KnownLemmas::counts_known))]
+pub fn known_among<L: Ledger>(
+    alloc: Global,
+    index: &PkgIndex<'_>,
+    repo: &Repo,
+    name: &QueryName,
+    options: &Options,
+    certs: &Known,
+    steps: &mut Steps<L>,
+) -> Result<Option<Found1>, LowerFault>
+    requires { index.now ≡ repo.now.pkgs }
+    ensures knows { KnowsNamed options.now certs.now repo.now name.now result }
+    ensures counted { CountsKnown result steps.old steps.new }
+{
+    let Some(judged) = find_named(repo, name, options) else {
+        return Err(LowerFault::NoMemory);
+    };
+    known_case(alloc, &*index, &judged, name.class, certs, steps)
+}
+
+/// The answer of the first backed record of the query of this name, which is one of those of the repository under the
+/// options; None exactly where none is backed. The query is lowered once and never solved. A name of no query finds no
+/// memory.
+pub fn known_one<L: Ledger>(
+    alloc: Global,
+    repo: &Repo,
+    name: &QueryName,
+    options: &Options,
+    certs: &Known,
+    steps: &mut Steps<L>,
+) -> Result<Option<Found1>, LowerFault>
+    ensures knows { KnowsNamed options.now certs.now repo.now name.now result }
+    ensures counted { CountsKnown result steps.old steps.new }
+{
+    let index = match PkgIndex::new(alloc, &repo.pkgs) {
+        Ok(index) => index,
+        Err(NoMemory) => return Err(LowerFault::NoMemory),
+    };
+    known_among(alloc, &index, repo, name, options, certs, steps)
+}
 
 // What is known of the query among the candidates.
 #[tactic(auto, using(crate::proofs::KnownLemmas::knows_found))]
@@ -81,46 +123,4 @@ fn known_case<'a, L: Ledger>(
     let test = |pkg: &Pkg| visible(pkg, profile, level);
     let candidates = Candidates::over(index, profile, level, test);
     known_at(alloc, &candidates, judged, class, certs, steps)
-}
-
-/// `known_one` over an index of the repository's packages.
-#[tactic(auto, using(crate::proofs::KnownLemmas::knows_named, crate::proofs::KnownLemmas::counts_known))]
-pub fn known_among<L: Ledger>(
-    alloc: Global,
-    index: &PkgIndex<'_>,
-    repo: &Repo,
-    name: &QueryName,
-    options: &Options,
-    certs: &Known,
-    steps: &mut Steps<L>,
-) -> Result<Option<Found1>, LowerFault>
-    requires { index.now ≡ repo.now.pkgs }
-    ensures knows { KnowsNamed options.now certs.now repo.now name.now result }
-    ensures counted { CountsKnown result steps.old steps.new }
-{
-    let Some(judged) = find_named(repo, name, options) else {
-        return Err(LowerFault::NoMemory);
-    };
-    known_case(alloc, &*index, &judged, name.class, certs, steps)
-}
-
-/// The answer of the first backed record of the query of this name, which is one of those of the repository under the
-/// options; None exactly where none is backed. The query is lowered once and never solved. A name of no query finds no
-/// memory.
-pub fn known_one<L: Ledger>(
-    alloc: Global,
-    repo: &Repo,
-    name: &QueryName,
-    options: &Options,
-    certs: &Known,
-    steps: &mut Steps<L>,
-) -> Result<Option<Found1>, LowerFault>
-    ensures knows { KnowsNamed options.now certs.now repo.now name.now result }
-    ensures counted { CountsKnown result steps.old steps.new }
-{
-    let index = match PkgIndex::new(alloc, &repo.pkgs) {
-        Ok(index) => index,
-        Err(NoMemory) => return Err(LowerFault::NoMemory),
-    };
-    known_among(alloc, &index, repo, name, options, certs, steps)
 }

@@ -5,7 +5,7 @@
 //! that it answers, `recall` where nothing is to be solved, `plain` by its list, `queries`, `ask_one` and `known_one` for single queries by their names, and of
 //! the laws what an answer says of all assignments.
 //!
-//! - `names`: the names of queries. `judged`: a package in a profile that judges it.
+//! - `names`: the names of queries. `context`: a package in a profile that judges it.
 //! - `classes`: the classes in order, and the keywords of their queries.
 //! - `lowering`, `judging`, `used`: a query lowered, judged, and its answer kept, one for each distinct gates.
 //! - `views`: what each profile shows and says of flags. `keys`, `shared`: by what contexts of a package share a query.
@@ -16,9 +16,9 @@
 #![tactic(auto)]
 
 mod classes;
+mod context;
 mod fault;
 mod finding;
-mod judged;
 mod judging;
 mod keys;
 mod known;

@@ -36,14 +36,6 @@ pub(crate) fn text<R: Abort>(rt: &R, alloc: Global, bytes: &str) -> Text {
     Text::of(alloc, bytes.as_bytes()).expect(rt, "memory")
 }
 
-fn keywords<R: Abort>(rt: &R, alloc: Global) -> Keywords {
-    let mut keywords = Keywords::new(alloc);
-    for keyword in KEYWORDS {
-        keywords.add(keyword).expect(rt, "memory");
-    }
-    keywords
-}
-
 // A repository in the making, and the entry that is read.
 #[derive(Drop)]
 struct Draft {
@@ -53,65 +45,6 @@ struct Draft {
     category: Text,
     pf: Text,
     entry: Text,
-}
-
-fn no_packages<R: Abort>(rt: &R, alloc: Global) -> Draft {
-    Draft {
-        pkgs: Pkgs::new(alloc),
-        bodies: Bodies::new(alloc),
-        rules: Rules::new(alloc),
-        category: text(rt, alloc, ""),
-        pf: text(rt, alloc, ""),
-        entry: text(rt, alloc, ""),
-    }
-}
-
-fn rule<R: Abort>(rt: &R, alloc: Global, effect: Effect, stable: bool, words: &str) -> Rule {
-    let (atom, flag) = words.split_once(' ').expect(rt, "an atom and a flag");
-    let atom = match atom {
-        "*" => None,
-        _ => Some(read_atom(alloc, atom.as_bytes()).expect(rt, "an atom")),
-    };
-    Rule {
-        effect,
-        stable,
-        atom,
-        flag: text(rt, alloc, flag),
-        on: true,
-    }
-}
-
-// A profile of status stable for amd64 with the path word `base`.
-fn profile<R: Abort>(rt: &R, alloc: Global, line: u32, rules: &Rules) -> Profile {
-    Profile {
-        line,
-        arch: text(rt, alloc, "amd64"),
-        path: text(rt, alloc, "base"),
-        status: Status::Stable,
-        iuse_implicit: Texts::new(alloc),
-        expand: Texts::new(alloc),
-        expand_implicit: Texts::new(alloc),
-        unprefixed: Texts::new(alloc),
-        values: ValueLists::new(alloc),
-        masks: Masks::new(alloc),
-        rules: rules.copy(alloc).expect(rt, "memory"),
-    }
-}
-
-// The package and the body of an entry.
-fn member<R: Abort>(
-    rt: &R,
-    alloc: Global,
-    category: &Text,
-    pf: &Text,
-    entry: &Text,
-) -> (Pkg, Body) {
-    if split_pf(pf.bytes()).is_none() {
-        return rt.abort();
-    }
-    let entry = read_entry(alloc, category, pf, entry.bytes()).expect(rt, "memory");
-    let Entry { head, body, .. } = entry;
-    (head.expect(rt, "a package"), body)
 }
 
 impl Draft {
@@ -214,4 +147,71 @@ pub(crate) fn lines_of(
 {
     let test = |report: &Report| selected(options, report);
     Emitter::new(options, test).emit(alloc, reports)
+}
+
+fn keywords<R: Abort>(rt: &R, alloc: Global) -> Keywords {
+    let mut keywords = Keywords::new(alloc);
+    for keyword in KEYWORDS {
+        keywords.add(keyword).expect(rt, "memory");
+    }
+    keywords
+}
+
+fn no_packages<R: Abort>(rt: &R, alloc: Global) -> Draft {
+    Draft {
+        pkgs: Pkgs::new(alloc),
+        bodies: Bodies::new(alloc),
+        rules: Rules::new(alloc),
+        category: text(rt, alloc, ""),
+        pf: text(rt, alloc, ""),
+        entry: text(rt, alloc, ""),
+    }
+}
+
+fn rule<R: Abort>(rt: &R, alloc: Global, effect: Effect, stable: bool, words: &str) -> Rule {
+    let (atom, flag) = words.split_once(' ').expect(rt, "an atom and a flag");
+    let atom = match atom {
+        "*" => None,
+        _ => Some(read_atom(alloc, atom.as_bytes()).expect(rt, "an atom")),
+    };
+    Rule {
+        effect,
+        stable,
+        atom,
+        flag: text(rt, alloc, flag),
+        on: true,
+    }
+}
+
+// A profile of status stable for amd64 with the path word `base`.
+fn profile<R: Abort>(rt: &R, alloc: Global, line: u32, rules: &Rules) -> Profile {
+    Profile {
+        line,
+        arch: text(rt, alloc, "amd64"),
+        path: text(rt, alloc, "base"),
+        status: Status::Stable,
+        iuse_implicit: Texts::new(alloc),
+        expand: Texts::new(alloc),
+        expand_implicit: Texts::new(alloc),
+        unprefixed: Texts::new(alloc),
+        values: ValueLists::new(alloc),
+        masks: Masks::new(alloc),
+        rules: rules.copy(alloc).expect(rt, "memory"),
+    }
+}
+
+// The package and the body of an entry.
+fn member<R: Abort>(
+    rt: &R,
+    alloc: Global,
+    category: &Text,
+    pf: &Text,
+    entry: &Text,
+) -> (Pkg, Body) {
+    if split_pf(pf.bytes()).is_none() {
+        return rt.abort();
+    }
+    let entry = read_entry(alloc, category, pf, entry.bytes()).expect(rt, "memory");
+    let Entry { head, body, .. } = entry;
+    (head.expect(rt, "a package"), body)
 }

@@ -6,7 +6,7 @@ ghost use Rattle.std.specs.Prelude.{◌≡◌, ◌++◌, ◌∷◌, [], map, fil
 ghost use Rattle.std.specs.List.{list_any};
 ghost use Rattle.gv_expr.specs.Dep.{deps};
 ghost use Rattle.gv_expr.specs.DepView.{dep_of};
-ghost use Rattle.gv_expr.specs.Mentioned.{with_atom};
+ghost use Rattle.gv_expr.specs.Mentions.{with_atom};
 ghost use Rattle.gv_checks.specs.Plain.{matches_at, nowhere_in, told_nonexistent};
 ghost use Rattle.gv_checks.specs.RepoReports.{is_nowhere, is_readable, nonexistent, nonexistent_in};
 
@@ -26,6 +26,23 @@ pub(crate) fn is_readable(pkg: &Pkg, body: &Body, class: Class) -> bool
     ensures { result ≡ is_readable pkg.now body.now class }
 {
     has_class(pkg.eapi, class) && is_whole(body, class)
+}
+
+/// Adds the reports of atoms of the package's classes that match no package, where they are selected.
+pub(crate) fn add_nonexistent(
+    alloc: Global,
+    options: &Options,
+    index: &PkgIndex<'_>,
+    pkg: &Pkg,
+    body: &Body,
+    reports: &mut Reports,
+) -> Result<(), NoMemory>
+    ensures { OnOk result (reports.new ≡ reports.old ++ told_nonexistent options.now index.now pkg.now body.now) }
+{
+    if options.keywords.has(Keyword::NonexistentDeps) {
+        return add_classes(alloc, index, pkg, body, &classes(), reports);
+    }
+    Ok(())
 }
 
 // Whether the package at this place matches.
@@ -169,23 +186,6 @@ fn add_classes(
         if is_readable(pkg, body, *class) {
             add_class(alloc, index, pkg, body, *class, reports)?;
         }
-    }
-    Ok(())
-}
-
-/// Adds the reports of atoms of the package's classes that match no package, where they are selected.
-pub(crate) fn add_nonexistent(
-    alloc: Global,
-    options: &Options,
-    index: &PkgIndex<'_>,
-    pkg: &Pkg,
-    body: &Body,
-    reports: &mut Reports,
-) -> Result<(), NoMemory>
-    ensures { OnOk result (reports.new ≡ reports.old ++ told_nonexistent options.now index.now pkg.now body.now) }
-{
-    if options.keywords.has(Keyword::NonexistentDeps) {
-        return add_classes(alloc, index, pkg, body, &classes(), reports);
     }
     Ok(())
 }

@@ -4,18 +4,18 @@
 //! query, lowering it, its look-up among the records or the solver, and the bytes that it hands out.
 ghost use Rattle.std.specs.Prelude.{◌≡◌, true, option_map, IfOk};
 ghost use Rattle.gv_base.specs.Words.{joined};
-ghost use Rattle.gv_cert.specs.AnswerBytes.{IsAnswer, claim_bytes};
+ghost use Rattle.gv_cert.specs.Claim.{IsAnswer, claim_bytes};
 ghost use Rattle.gv_lower.specs.Lowered.{IsQuery};
 ghost use Rattle.gv_query.specs.Truth.{IsSo};
-ghost use Rattle.gv_visible.specs.Told.{test_of};
+ghost use Rattle.gv_visible.specs.Candidates.{test_of};
 ghost use Rattle.gv_checks.specs.Answered.{AnswersOne, CountsOne};
-ghost use Rattle.gv_checks.specs.Judged.{AreAround, IsNumbered, case_of};
+ghost use Rattle.gv_checks.specs.Context.{AreAround, IsNumbered, case_of};
 ghost use Rattle.gv_checks.specs.Named.{AnswersNamed};
 ghost use Rattle.gv_checks.specs.Queries.{flags_of, gates_bytes, gates_of, has_query, items_of, least_of, query_of};
 ghost use Rattle.gv_checks.specs.RepoReports.{query_report, witness_of, witness_words};
 
+use crate::context::JudgedPkg;
 use crate::finding::find_named;
-use crate::judged::JudgedPkg;
 use crate::judging::{lowered, name_of};
 use crate::laws::gates_law;
 use crate::reporting::{report_of, witness_of};
@@ -44,16 +44,6 @@ pub struct Found1 {
     pub report: Option<Report>,
     /// Whether the answer is that of the first backed record.
     pub reused: bool,
-}
-
-// The words of what was found, if anything was.
-fn found_text(alloc: Global, flags: &[Text], found: &Option<Bits>) -> Result<Option<Text>, NoMemory>
-    ensures { IfOk result (λ text. text ≡ option_map (λ bits. joined (witness_words flags.now bits)) found.now) }
-{
-    match found {
-        None => Ok(None),
-        Some(bits) => Ok(Some(witness_of(alloc, flags, bits.items())?)),
-    }
 }
 
 /// The answer as it is handed out.
@@ -87,6 +77,57 @@ pub(crate) fn found_at(
         report,
         reused,
     })
+}
+
+/// `ask_one` over an index of the repository's packages.
+#[tactic(auto, using(crate::proofs::NamedLemmas::answers_named))]
+pub fn ask_among<L: Ledger>(
+    alloc: Global,
+    index: &PkgIndex<'_>,
+    repo: &Repo,
+    name: &QueryName,
+    options: &Options,
+    certs: &Known,
+    steps: &mut Steps<L>,
+) -> Result<Found1, JudgeFault>
+    requires { index.now ≡ repo.now.pkgs }
+    ensures answers { AnswersNamed options.now certs.now repo.now name.now result }
+    ensures counted { CountsOne result steps.old steps.new }
+{
+    let Some(judged) = find_named(repo, name, options) else {
+        return Err(JudgeFault::NoMemory);
+    };
+    answer_case(alloc, &*index, &judged, name.class, options, certs, steps)
+}
+
+/// The answer to the query of this name, which is one of those of the repository under the options. It is lowered once, and
+/// solved where no record is backed. A name of no query finds no memory.
+pub fn ask_one<L: Ledger>(
+    alloc: Global,
+    repo: &Repo,
+    name: &QueryName,
+    options: &Options,
+    certs: &Known,
+    steps: &mut Steps<L>,
+) -> Result<Found1, JudgeFault>
+    ensures answers { AnswersNamed options.now certs.now repo.now name.now result }
+    ensures counted { CountsOne result steps.old steps.new }
+{
+    let index = match PkgIndex::new(alloc, &repo.pkgs) {
+        Ok(index) => index,
+        Err(NoMemory) => return Err(JudgeFault::NoMemory),
+    };
+    ask_among(alloc, &index, repo, name, options, certs, steps)
+}
+
+// The words of what was found, if anything was.
+fn found_text(alloc: Global, flags: &[Text], found: &Option<Bits>) -> Result<Option<Text>, NoMemory>
+    ensures { IfOk result (λ text. text ≡ option_map (λ bits. joined (witness_words flags.now bits)) found.now) }
+{
+    match found {
+        None => Ok(None),
+        Some(bits) => Ok(Some(witness_of(alloc, flags, bits.items())?)),
+    }
 }
 
 // The answer to the query among the candidates.
@@ -143,45 +184,4 @@ fn answer_case<'a, L: Ledger>(
     let test = |pkg: &Pkg| visible(pkg, profile, level);
     let candidates = Candidates::over(index, profile, level, test);
     answer_at(alloc, &candidates, judged, class, options, certs, steps)
-}
-
-/// `ask_one` over an index of the repository's packages.
-#[tactic(auto, using(crate::proofs::NamedLemmas::answers_named))]
-pub fn ask_among<L: Ledger>(
-    alloc: Global,
-    index: &PkgIndex<'_>,
-    repo: &Repo,
-    name: &QueryName,
-    options: &Options,
-    certs: &Known,
-    steps: &mut Steps<L>,
-) -> Result<Found1, JudgeFault>
-    requires { index.now ≡ repo.now.pkgs }
-    ensures answers { AnswersNamed options.now certs.now repo.now name.now result }
-    ensures counted { CountsOne result steps.old steps.new }
-{
-    let Some(judged) = find_named(repo, name, options) else {
-        return Err(JudgeFault::NoMemory);
-    };
-    answer_case(alloc, &*index, &judged, name.class, options, certs, steps)
-}
-
-/// The answer to the query of this name, which is one of those of the repository under the options. It is lowered once, and
-/// solved where no record is backed. A name of no query finds no memory.
-pub fn ask_one<L: Ledger>(
-    alloc: Global,
-    repo: &Repo,
-    name: &QueryName,
-    options: &Options,
-    certs: &Known,
-    steps: &mut Steps<L>,
-) -> Result<Found1, JudgeFault>
-    ensures answers { AnswersNamed options.now certs.now repo.now name.now result }
-    ensures counted { CountsOne result steps.old steps.new }
-{
-    let index = match PkgIndex::new(alloc, &repo.pkgs) {
-        Ok(index) => index,
-        Err(NoMemory) => return Err(JudgeFault::NoMemory),
-    };
-    ask_among(alloc, &index, repo, name, options, certs, steps)
 }

@@ -3,14 +3,14 @@
 //! The views of the profiles are made once, or lent by `judge` and `recall`. For each package its classes are gone through
 //! once, and each profile that judges it costs what `unstated` costs there.
 ghost use Rattle.std.specs.Prelude.{◌≡◌, ◌++◌, Some, map, filter, flat_map, slice_get, IfOk, OnOk};
-ghost use Rattle.gv_report.specs.Selected.{selected};
+ghost use Rattle.gv_report.specs.Selecting.{selected};
 ghost use Rattle.gv_checks.specs.Cases.{case_in, cases_of, members_from};
-ghost use Rattle.gv_checks.specs.Judged.{case_of};
+ghost use Rattle.gv_checks.specs.Context.{case_of};
 ghost use Rattle.gv_checks.specs.Plain.{other_flags, told_case, told_in, told_live, told_member};
 ghost use Rattle.gv_checks.specs.RepoReports.{live, plain_reports, readable_classes};
 ghost use Rattle.gv_checks.specs.Walks.{seen};
 
-use crate::judged::JudgedPkg;
+use crate::context::JudgedPkg;
 use crate::judging::is_told;
 use crate::nonexistent::add_nonexistent;
 use crate::reporting::{context_of, subject_of};
@@ -23,6 +23,44 @@ use gv_load::Repo;
 use gv_report::{Keyword, Options, Report, Reports, selected};
 use gv_visible::PkgIndex;
 use std::alloc::Global;
+
+/// `plain` over the views of the profiles.
+#[tactic(auto, using(crate::proofs::PlainLemmas::all_told))]
+pub(crate) fn plain_among(
+    alloc: Global,
+    repo: &Repo,
+    index: &PkgIndex<'_>,
+    views: &[ProfileView<'_>],
+    options: &Options,
+) -> Result<Reports, NoMemory>
+    requires index { index.now ≡ repo.now.pkgs }
+    requires views { views.now ≡ map (seen repo.now.pkgs) repo.now.profiles }
+    ensures { IfOk result (λ reports. reports ≡ filter (selected options.now) (plain_reports repo.now)) }
+{
+    let mut reports = Reports::new(alloc);
+    add_selected(alloc, options, repo.notes.items(), &mut reports)?;
+    add_members(
+        alloc,
+        options,
+        repo,
+        index,
+        views,
+        repo.pkgs.items(),
+        repo.bodies.items(),
+        &mut reports,
+    )?;
+    Ok(reports)
+}
+
+/// The selected reports that need no query: what was noted in reading, atoms that match no package, flags that a class
+/// mentions and that aren't effective, and live packages. Packages are numbered by 32 bits, and more of them find no
+/// memory.
+pub fn plain(alloc: Global, repo: &Repo, options: &Options) -> Result<Reports, NoMemory>
+    ensures { IfOk result (λ reports. reports ≡ filter (selected options.now) (plain_reports repo.now)) }
+{
+    let index = PkgIndex::new(alloc, &repo.pkgs)?;
+    plain_over(alloc, repo, &index, options)
+}
 
 fn add_selected(
     alloc: Global,
@@ -193,34 +231,6 @@ fn add_members(
     Ok(())
 }
 
-/// `plain` over the views of the profiles.
-#[tactic(auto, using(crate::proofs::PlainLemmas::all_told))]
-pub(crate) fn plain_among(
-    alloc: Global,
-    repo: &Repo,
-    index: &PkgIndex<'_>,
-    views: &[ProfileView<'_>],
-    options: &Options,
-) -> Result<Reports, NoMemory>
-    requires index { index.now ≡ repo.now.pkgs }
-    requires views { views.now ≡ map (seen repo.now.pkgs) repo.now.profiles }
-    ensures { IfOk result (λ reports. reports ≡ filter (selected options.now) (plain_reports repo.now)) }
-{
-    let mut reports = Reports::new(alloc);
-    add_selected(alloc, options, repo.notes.items(), &mut reports)?;
-    add_members(
-        alloc,
-        options,
-        repo,
-        index,
-        views,
-        repo.pkgs.items(),
-        repo.bodies.items(),
-        &mut reports,
-    )?;
-    Ok(reports)
-}
-
 fn plain_indexed<'a>(
     alloc: Global,
     repo: &'a Repo,
@@ -244,14 +254,4 @@ fn plain_over(
     ensures { IfOk result (λ reports. reports ≡ filter (selected options.now) (plain_reports repo.now)) }
 {
     plain_indexed(alloc, &*repo, &*index, options)
-}
-
-/// The selected reports that need no query: what was noted in reading, atoms that match no package, flags that a class
-/// mentions and that aren't effective, and live packages. Packages are numbered by 32 bits, and more of them find no
-/// memory.
-pub fn plain(alloc: Global, repo: &Repo, options: &Options) -> Result<Reports, NoMemory>
-    ensures { IfOk result (λ reports. reports ≡ filter (selected options.now) (plain_reports repo.now)) }
-{
-    let index = PkgIndex::new(alloc, &repo.pkgs)?;
-    plain_over(alloc, repo, &index, options)
 }

@@ -3,7 +3,7 @@
 //! It costs what `judge` costs, but no solving: each distinct query is looked for by its bytes once, and its records are
 //! checked up to the first that is backed.
 ghost use Rattle.std.specs.Prelude.{◌≡◌, List};
-ghost use Rattle.gv_cert.specs.Records.{KnownRecord};
+ghost use Rattle.gv_cert.specs.Known.{KnownRecord};
 ghost use Rattle.gv_checks.specs.Progress.{Stops};
 ghost use Rattle.gv_checks.specs.Queries.{Query};
 ghost use Rattle.gv_checks.specs.Recalled.{NotRecalls, Recalls};
@@ -51,6 +51,23 @@ impl From<NoMemory> for RecallFault {
     fn from(_refused: NoMemory) -> RecallFault {
         RecallFault::NoMemory
     }
+}
+
+/// The reports of a scan, in order, equal ones once, where each query has a backed record among the given ones. Each query is
+/// lowered at most once and none is solved. The first query that is past a limit, or has no backed record, ends it.
+pub fn recall<L: Ledger>(
+    alloc: Global,
+    repo: &Repo,
+    options: &Options,
+    certs: &Known,
+    steps: &mut Steps<L>,
+) -> Result<Recalled, RecallFault>
+    ensures recalls { Recalls options.now certs.now repo.now result }
+    ensures unsolved { steps.new.solve ≡ steps.old.solve }
+{
+    let index = PkgIndex::new(alloc, &repo.pkgs)?;
+    let ruled = RuledFlags::new(alloc, repo.profiles.items())?;
+    recall_over(alloc, repo, &index, &ruled, options, certs, steps)
 }
 
 // Why no more than these many queries are recalled.
@@ -124,21 +141,4 @@ fn recall_over<L: Ledger>(
     ensures unsolved { steps.new.solve ≡ steps.old.solve }
 {
     recall_indexed(alloc, &*repo, &*index, ruled, options, certs, steps)
-}
-
-/// The reports of a scan, in order, equal ones once, where each query has a backed record among the given ones. Each query is
-/// lowered at most once and none is solved. The first query that is past a limit, or has no backed record, ends it.
-pub fn recall<L: Ledger>(
-    alloc: Global,
-    repo: &Repo,
-    options: &Options,
-    certs: &Known,
-    steps: &mut Steps<L>,
-) -> Result<Recalled, RecallFault>
-    ensures recalls { Recalls options.now certs.now repo.now result }
-    ensures unsolved { steps.new.solve ≡ steps.old.solve }
-{
-    let index = PkgIndex::new(alloc, &repo.pkgs)?;
-    let ruled = RuledFlags::new(alloc, repo.profiles.items())?;
-    recall_over(alloc, repo, &index, &ruled, options, certs, steps)
 }

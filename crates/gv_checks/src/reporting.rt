@@ -8,13 +8,13 @@ ghost use Rattle.gv_entry.specs.declared.entry.Body.{Body};
 ghost use Rattle.gv_logic.specs.Circuits.{at, values};
 ghost use Rattle.gv_logic.specs.Literals.{lit_true};
 ghost use Rattle.gv_lower.specs.Lowered.{IsQuery};
-ghost use Rattle.gv_checks.specs.Judged.{case_of};
+ghost use Rattle.gv_checks.specs.Context.{case_of};
 ghost use Rattle.gv_checks.specs.Queries.{class_of, context_of, flags_of, gates_of, has_query, items_of, least_of, query_of, required_of};
 ghost use Rattle.gv_checks.specs.RepoReports.{failing_text, nonsolvable, query_report, subject_of, unsatisfiable, witness_of, witness_words};
 ghost use Rattle.gv_checks.specs.Unmet.{FoundUnmet, first_off};
 
 use crate::classes::class_keyword;
-use crate::judged::JudgedPkg;
+use crate::context::JudgedPkg;
 use crate::laws::answers_law;
 use gv_base::{NoMemory, Text, Texts};
 use gv_entry::class_in;
@@ -48,6 +48,38 @@ pub(crate) fn context_of(alloc: Global, judged: &JudgedPkg<'_>) -> Result<Contex
     })
 }
 
+/// The words of the flags with these bits, joined by one space.
+pub(crate) fn witness_of(alloc: Global, flags: &[Text], bits: &[bool]) -> Result<Text, NoMemory>
+    ensures { IfOk result (λ text. text ≡ joined (witness_words flags.now bits.now)) }
+{
+    let words = witness_words(alloc, flags, bits)?;
+    words.joined(alloc, b' ')
+}
+
+/// The report of the query, if it has one, from the least assignment that is asked for.
+pub(crate) fn report_of(
+    alloc: Global,
+    judged: &JudgedPkg<'_>,
+    class: Class,
+    query: &Query,
+    found: &Option<Bits>,
+) -> Result<Option<Report>, NoMemory>
+    requires lowered { IsQuery (gates_of (query_of (case_of judged.now) class)) (flags_of (query_of (case_of judged.now) class)) (items_of (query_of (case_of judged.now) class)) query.now }
+    requires found { found.now ≡ least_of (query_of (case_of judged.now) class) }
+    ensures { IfOk result (λ report. report ≡ query_report (query_of (case_of judged.now) class)) }
+{
+    answers_law();
+    match (class_in(judged.body, class), found) {
+        (None, None) => Ok(Some(unsatisfiable(alloc, judged, class)?)),
+        (None, Some(_)) => Ok(None),
+        (Some(_), None) => Ok(None),
+        (Some(dep), Some(bits)) => {
+            let report = nonsolvable(alloc, judged, class, dep, query, bits)?;
+            Ok(Some(report))
+        }
+    }
+}
+
 // A flag, with `-` before it where it is off.
 fn witness_word(alloc: Global, flag: &Text, on: bool) -> Result<Text, NoMemory>
     ensures { IfOk result (λ word. word ≡ (if on then flag.now else codes "-" ++ flag.now)) }
@@ -72,14 +104,6 @@ fn witness_words(alloc: Global, flags: &[Text], bits: &[bool]) -> Result<Texts, 
         words.add(witness_word(alloc, flag, bits[i])?)?;
     }
     Ok(words)
-}
-
-/// The words of the flags with these bits, joined by one space.
-pub(crate) fn witness_of(alloc: Global, flags: &[Text], bits: &[bool]) -> Result<Text, NoMemory>
-    ensures { IfOk result (λ text. text ≡ joined (witness_words flags.now bits.now)) }
-{
-    let words = witness_words(alloc, flags, bits)?;
-    words.joined(alloc, b' ')
 }
 
 fn is_true(places: &[bool], lit: Lit) -> bool
@@ -182,28 +206,4 @@ fn nonsolvable(
         witness: Some(witness_of(alloc, query.flags.items(), bits.items())?),
         detail: Some(failing_text(alloc, judged, class, dep, query, bits)?),
     })
-}
-
-/// The report of the query, if it has one, from the least assignment that is asked for.
-pub(crate) fn report_of(
-    alloc: Global,
-    judged: &JudgedPkg<'_>,
-    class: Class,
-    query: &Query,
-    found: &Option<Bits>,
-) -> Result<Option<Report>, NoMemory>
-    requires lowered { IsQuery (gates_of (query_of (case_of judged.now) class)) (flags_of (query_of (case_of judged.now) class)) (items_of (query_of (case_of judged.now) class)) query.now }
-    requires found { found.now ≡ least_of (query_of (case_of judged.now) class) }
-    ensures { IfOk result (λ report. report ≡ query_report (query_of (case_of judged.now) class)) }
-{
-    answers_law();
-    match (class_in(judged.body, class), found) {
-        (None, None) => Ok(Some(unsatisfiable(alloc, judged, class)?)),
-        (None, Some(_)) => Ok(None),
-        (Some(_), None) => Ok(None),
-        (Some(dep), Some(bits)) => {
-            let report = nonsolvable(alloc, judged, class, dep, query, bits)?;
-            Ok(Some(report))
-        }
-    }
 }

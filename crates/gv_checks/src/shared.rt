@@ -6,18 +6,18 @@
 ghost use Rattle.std.specs.Prelude.{◌≡◌, ◌⊎◌, [], ℕ, List, true, IfOk, IfErr, IfSome};
 ghost use Rattle.gv_base.specs.Steps.{after};
 ghost use Rattle.gv_base.specs.declared.steps.Kind.TheVariants.{Lower};
-ghost use Rattle.gv_cert.specs.Records.{KnownRecord};
+ghost use Rattle.gv_cert.specs.Known.{KnownRecord};
 ghost use Rattle.gv_entry.specs.declared.entry.Body.{Body};
 ghost use Rattle.gv_facts.specs.declared.pkg.Pkg.{Pkg};
-ghost use Rattle.gv_visible.specs.Told.{test_of};
-ghost use Rattle.gv_checks.specs.Judged.{AreAround, case_of};
+ghost use Rattle.gv_visible.specs.Candidates.{test_of};
+ghost use Rattle.gv_checks.specs.Context.{AreAround, case_of};
 ghost use Rattle.gv_checks.specs.Keys.{ArePartsOf};
 ghost use Rattle.gv_checks.specs.Limits.{Cause};
 ghost use Rattle.gv_checks.specs.Queries.{has_query, query_of};
 ghost use Rattle.gv_checks.specs.Shared.{AreShared, IsKeptAs, IsSharedAt, Keeps, MayLower, key_of};
 
 use crate::JudgeFault;
-use crate::judged::JudgedPkg;
+use crate::context::JudgedPkg;
 use crate::judging::lowered;
 use crate::keys::PkgSites;
 use crate::views::ProfileView;

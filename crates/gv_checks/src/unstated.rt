@@ -3,12 +3,12 @@
 //! A flag of the package's IUSE is effective in every profile, so only the others are looked at in each context, of which
 //! there are few: each costs O(IUSE_IMPLICIT and the values of implicit variables).
 ghost use Rattle.std.specs.Prelude.{◌≡◌, ◌++◌, map, filter, flat_map, true, not, IfOk, OnOk};
-ghost use Rattle.gv_checks.specs.Judged.{case_of};
+ghost use Rattle.gv_checks.specs.Context.{case_of};
 ghost use Rattle.gv_checks.specs.Plain.{is_other, other_flags, told_unstated, unstated_among};
 ghost use Rattle.gv_checks.specs.RepoReports.{is_readable, is_unstated, mentioned_in, readable_classes, unstated, unstated_in};
 
 use crate::classes::classes;
-use crate::judged::JudgedPkg;
+use crate::context::JudgedPkg;
 use crate::judging::is_told;
 use crate::nonexistent::is_readable;
 use crate::reporting::{context_of, subject_of};
@@ -25,6 +25,35 @@ use std::alloc::Global;
 pub(crate) struct OtherFlags {
     pub(crate) class: Class,
     pub(crate) flags: Texts,
+}
+
+/// The flags of each readable class, in the order of classes.
+pub(crate) fn other_flags(
+    alloc: Global,
+    pkg: &Pkg,
+    body: &Body,
+) -> Result<Vec<OtherFlags>, NoMemory>
+    ensures { IfOk result (λ others. others.items ≡ map (other_flags pkg.now body.now) (readable_classes pkg.now body.now)) }
+{
+    others_among(alloc, pkg, body, &classes())
+}
+
+/// Adds the reports of the flags that aren't effective in the context, where they are selected.
+#[tactic(auto, using(crate::proofs::PlainLemmas::unstated_by_others))]
+pub(crate) fn add_unstated(
+    alloc: Global,
+    options: &Options,
+    judged: &JudgedPkg<'_>,
+    others: &[OtherFlags],
+    reports: &mut Reports,
+) -> Result<(), NoMemory>
+    requires { others.now ≡ map (other_flags judged.now.pkg.now judged.now.body.now) (readable_classes judged.now.pkg.now judged.now.body.now) }
+    ensures { OnOk result (reports.new ≡ reports.old ++ told_unstated options.now (case_of judged.now)) }
+{
+    if is_told(options, judged, Keyword::UnstatedIuse) {
+        return add_others(alloc, judged, others, reports);
+    }
+    Ok(())
 }
 
 fn mentioned_in(alloc: Global, body: &Body, class: Class) -> Result<Texts, NoMemory>
@@ -86,17 +115,6 @@ fn others_among(
     Ok(others)
 }
 
-/// The flags of each readable class, in the order of classes.
-pub(crate) fn other_flags(
-    alloc: Global,
-    pkg: &Pkg,
-    body: &Body,
-) -> Result<Vec<OtherFlags>, NoMemory>
-    ensures { IfOk result (λ others. others.items ≡ map (other_flags pkg.now body.now) (readable_classes pkg.now body.now)) }
-{
-    others_among(alloc, pkg, body, &classes())
-}
-
 fn is_unstated(judged: &JudgedPkg<'_>, flag: &Text) -> bool
     ensures { result ≡ is_unstated (case_of judged.now) flag.now }
 {
@@ -151,24 +169,6 @@ fn add_others(
 {
     for other in others {
         add_flags(alloc, judged, other.class, other.flags.items(), reports)?;
-    }
-    Ok(())
-}
-
-/// Adds the reports of the flags that aren't effective in the context, where they are selected.
-#[tactic(auto, using(crate::proofs::PlainLemmas::unstated_by_others))]
-pub(crate) fn add_unstated(
-    alloc: Global,
-    options: &Options,
-    judged: &JudgedPkg<'_>,
-    others: &[OtherFlags],
-    reports: &mut Reports,
-) -> Result<(), NoMemory>
-    requires { others.now ≡ map (other_flags judged.now.pkg.now judged.now.body.now) (readable_classes judged.now.pkg.now judged.now.body.now) }
-    ensures { OnOk result (reports.new ≡ reports.old ++ told_unstated options.now (case_of judged.now)) }
-{
-    if is_told(options, judged, Keyword::UnstatedIuse) {
-        return add_others(alloc, judged, others, reports);
     }
     Ok(())
 }

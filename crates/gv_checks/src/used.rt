@@ -5,9 +5,9 @@
 ghost use Rattle.std.specs.Prelude.{◌≡◌, true, ◌<◌, ◌≤◌, ◌∷◌, ◌++◌, [], length, if◌then◌else◌, IfOk, IfErr, OnOk};
 ghost use Rattle.gv_base.specs.Steps.{after};
 ghost use Rattle.gv_base.specs.declared.steps.Kind.TheVariants.{Solve};
-ghost use Rattle.gv_cert.specs.AnswerBytes.{IsAnswer, claim_bytes};
-ghost use Rattle.gv_query.specs.Asked.{IsAnswered};
-ghost use Rattle.gv_cert.specs.Records.{HasQuery};
+ghost use Rattle.gv_cert.specs.Claim.{IsAnswer, claim_bytes};
+ghost use Rattle.gv_query.specs.Asking.{IsAnswered};
+ghost use Rattle.gv_cert.specs.Known.{HasQuery};
 ghost use Rattle.gv_logic.specs.Bytes.{circuit_bytes};
 ghost use Rattle.gv_checks.specs.Asked.{found_bits};
 ghost use Rattle.gv_checks.specs.Progress.{AreSome, CountsAnswer, SpentBy, Uses};
@@ -76,46 +76,6 @@ pub(crate) fn answer_of<L: Ledger>(
         }),
         Outcome::Spent { sets } => Err(AskFault::Spent { sets }),
     }
-}
-
-// The answer of the first backed record. Where none is backed, no sets spend what is no budget.
-#[tactic(auto, using(crate::proofs::CertLemmas::is_recalled, crate::proofs::CertLemmas::none_recalled))]
-fn recalled(alloc: Global, gates: &Gates, budget: u32, given: &Known) -> Result<Answer, AskFault>
-    requires none { budget ≡ 0 }
-    ensures answered { IfOk result (λ a. IsAnswered gates.now budget given.now a.claim a.reused) }
-    ensures reused { IfOk result (λ a. a.reused ≡ true) }
-    ensures spent { IfErr result (SpentBy gates.now budget given.now) }
-{
-    match first_backed(alloc, gates, given)? {
-        Some(claim) => Ok(Answer {
-            claim,
-            reused: true,
-        }),
-        None => Err(AskFault::Spent {
-            sets: FlagSets::new(alloc),
-        }),
-    }
-}
-
-// What is so of the gates; with no budget only what a record says.
-fn answer_within<L: Ledger>(
-    alloc: Global,
-    gates: &Gates,
-    budget: u32,
-    given: &Known,
-    steps: &mut Steps<L>,
-) -> Result<Answer, AskFault>
-    requires most { budget ≤ 1000000 }
-    ensures answered { IfOk result (λ a. IsAnswered gates.now budget given.now a.claim a.reused) }
-    ensures counted { IfOk result (λ a. steps.new ≡ (if a.reused then steps.old else after Solve steps.old)) }
-    ensures spent { IfErr result (SpentBy gates.now budget given.now) }
-    ensures reused { IfOk result (λ a. budget ≡ 0 → a.reused ≡ true) }
-    ensures unsolved { budget ≡ 0 → steps.new ≡ steps.old }
-{
-    if budget == 0 {
-        return recalled(alloc, gates, budget, given);
-    }
-    answer_of(alloc, gates, budget, given, steps)
 }
 
 /// The bits that it found.
@@ -211,4 +171,44 @@ impl Used {
         }
         self.place(alloc, query, gates, budget, given, steps)
     }
+}
+
+// The answer of the first backed record. Where none is backed, no sets spend what is no budget.
+#[tactic(auto, using(crate::proofs::CertLemmas::is_recalled, crate::proofs::CertLemmas::none_recalled))]
+fn recalled(alloc: Global, gates: &Gates, budget: u32, given: &Known) -> Result<Answer, AskFault>
+    requires none { budget ≡ 0 }
+    ensures answered { IfOk result (λ a. IsAnswered gates.now budget given.now a.claim a.reused) }
+    ensures reused { IfOk result (λ a. a.reused ≡ true) }
+    ensures spent { IfErr result (SpentBy gates.now budget given.now) }
+{
+    match first_backed(alloc, gates, given)? {
+        Some(claim) => Ok(Answer {
+            claim,
+            reused: true,
+        }),
+        None => Err(AskFault::Spent {
+            sets: FlagSets::new(alloc),
+        }),
+    }
+}
+
+// What is so of the gates; with no budget only what a record says.
+fn answer_within<L: Ledger>(
+    alloc: Global,
+    gates: &Gates,
+    budget: u32,
+    given: &Known,
+    steps: &mut Steps<L>,
+) -> Result<Answer, AskFault>
+    requires most { budget ≤ 1000000 }
+    ensures answered { IfOk result (λ a. IsAnswered gates.now budget given.now a.claim a.reused) }
+    ensures counted { IfOk result (λ a. steps.new ≡ (if a.reused then steps.old else after Solve steps.old)) }
+    ensures spent { IfErr result (SpentBy gates.now budget given.now) }
+    ensures reused { IfOk result (λ a. budget ≡ 0 → a.reused ≡ true) }
+    ensures unsolved { budget ≡ 0 → steps.new ≡ steps.old }
+{
+    if budget == 0 {
+        return recalled(alloc, gates, budget, given);
+    }
+    answer_of(alloc, gates, budget, given, steps)
 }

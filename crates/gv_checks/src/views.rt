@@ -20,7 +20,7 @@ pub(crate) struct ProfileView<'a> {
 
 impl<'a> Model for ProfileView<'a> {
     ghost use Rattle.std.specs.Prelude.{◌≡◌};
-    ghost use Rattle.gv_visible.specs.Told.{VisiblePkgs};
+    ghost use Rattle.gv_visible.specs.Candidates.{VisiblePkgs};
 
     ghost Value = { VisiblePkgs };
 

@@ -4,9 +4,9 @@
 //! finding what its classes ask about, and each context in which it is judged the keys of its queries. What is lowered in one
 //! context of a package is shared by the others.
 ghost use Rattle.std.specs.Prelude.{◌≡◌, ◌≤◌, ◌++◌, Some, slice_get, map, filter, flat_map, filter_map, IfOk, OnOk};
-ghost use Rattle.gv_visible.specs.Told.{test_of};
+ghost use Rattle.gv_visible.specs.Candidates.{test_of};
 ghost use Rattle.gv_checks.specs.Cases.{case_in, cases_of, members, members_from};
-ghost use Rattle.gv_checks.specs.Judged.{AreAround, IsNumbered, case_of};
+ghost use Rattle.gv_checks.specs.Context.{AreAround, IsNumbered, case_of};
 ghost use Rattle.gv_checks.specs.Keys.{ArePartsOf, HasSites};
 ghost use Rattle.gv_checks.specs.Shared.{AreShared};
 ghost use Rattle.gv_checks.specs.Walks.{seen};
@@ -14,7 +14,7 @@ ghost use Rattle.gv_checks.specs.Progress.{IsSomewhere, Judges};
 ghost use Rattle.gv_checks.specs.Queries.{case_queries, is_asked, queries, query_name, query_of};
 
 use crate::classes::classes;
-use crate::judged::JudgedPkg;
+use crate::context::JudgedPkg;
 use crate::judging::{Progress, add_case_names, is_asked, judge_query};
 use crate::keys::{PkgSites, make_required_key};
 use crate::shared::Shared;
@@ -29,6 +29,63 @@ use gv_report::Options;
 use gv_usestate::RuledFlags;
 use gv_visible::{Candidates, PkgIndex, judged, visible};
 use std::alloc::Global;
+
+/// Judges all queries, in order; with no budget by the records alone. The views are those of the profiles.
+pub(crate) fn judge_all<L: Ledger>(
+    alloc: Global,
+    repo: &Repo,
+    index: &PkgIndex<'_>,
+    ruled: &RuledFlags<'_>,
+    views: &[ProfileView<'_>],
+    options: &Options,
+    budget: u32,
+    given: &Known,
+    progress: &mut Progress,
+    steps: &mut Steps<L>,
+) -> Result<(), JudgeFault>
+    requires index { index.now ≡ repo.now.pkgs }
+    requires ruled { ruled.now ≡ repo.now.profiles }
+    requires views { views.now ≡ map (seen repo.now.pkgs) repo.now.profiles }
+    requires most { budget ≤ 1000000 }
+    requires somewhere { IsSomewhere budget given.now progress.old steps.old }
+    ensures judges { Judges budget given.now (queries options.now repo.now) progress.old progress.new steps.old steps.new result }
+    ensures unsolved { budget ≡ 0 → steps.new.solve ≡ steps.old.solve }
+{
+    let pkgs = repo.pkgs.items();
+    let bodies = repo.bodies.items();
+    for (i, pkg) in pkgs.iter().enumerate() {
+        if i >= bodies.len() {
+            return Ok(());
+        }
+        let Ok(number) = u32::try_from(i) else {
+            return Err(JudgeFault::NoMemory);
+        };
+        match judge_pkg(
+            alloc, repo, &*index, &*ruled, views, number, pkg, &bodies[i], options, budget, given,
+            progress, steps,
+        ) {
+            Ok(()) => {}
+            Err(fault) => return Err(fault),
+        }
+    }
+    Ok(())
+}
+
+/// The names of the queries of a repository under options, in their order. Packages are numbered by 32 bits, and more of
+/// them find no memory.
+pub fn queries(alloc: Global, repo: &Repo, options: &Options) -> Result<QueryNames, NoMemory>
+    ensures { IfOk result (λ names. names ≡ map query_name (queries options.now repo.now)) }
+{
+    let mut names = QueryNames::new(alloc);
+    add_all_names(
+        repo,
+        repo.pkgs.items(),
+        repo.bodies.items(),
+        options,
+        &mut names,
+    )?;
+    Ok(names)
+}
 
 fn judge_classes<F: Fn(&Pkg) -> bool, L: Ledger>(
     alloc: Global,
@@ -171,47 +228,6 @@ fn judge_pkg<'a, L: Ledger>(
     Ok(())
 }
 
-/// Judges all queries, in order; with no budget by the records alone. The views are those of the profiles.
-pub(crate) fn judge_all<L: Ledger>(
-    alloc: Global,
-    repo: &Repo,
-    index: &PkgIndex<'_>,
-    ruled: &RuledFlags<'_>,
-    views: &[ProfileView<'_>],
-    options: &Options,
-    budget: u32,
-    given: &Known,
-    progress: &mut Progress,
-    steps: &mut Steps<L>,
-) -> Result<(), JudgeFault>
-    requires index { index.now ≡ repo.now.pkgs }
-    requires ruled { ruled.now ≡ repo.now.profiles }
-    requires views { views.now ≡ map (seen repo.now.pkgs) repo.now.profiles }
-    requires most { budget ≤ 1000000 }
-    requires somewhere { IsSomewhere budget given.now progress.old steps.old }
-    ensures judges { Judges budget given.now (queries options.now repo.now) progress.old progress.new steps.old steps.new result }
-    ensures unsolved { budget ≡ 0 → steps.new.solve ≡ steps.old.solve }
-{
-    let pkgs = repo.pkgs.items();
-    let bodies = repo.bodies.items();
-    for (i, pkg) in pkgs.iter().enumerate() {
-        if i >= bodies.len() {
-            return Ok(());
-        }
-        let Ok(number) = u32::try_from(i) else {
-            return Err(JudgeFault::NoMemory);
-        };
-        match judge_pkg(
-            alloc, repo, &*index, &*ruled, views, number, pkg, &bodies[i], options, budget, given,
-            progress, steps,
-        ) {
-            Ok(()) => {}
-            Err(fault) => return Err(fault),
-        }
-    }
-    Ok(())
-}
-
 fn add_pkg_names(
     repo: &Repo,
     number: u32,
@@ -259,20 +275,4 @@ fn add_all_names(
         add_pkg_names(repo, number, pkg, &bodies[i], profiles, options, names)?;
     }
     Ok(())
-}
-
-/// The names of the queries of a repository under options, in their order. Packages are numbered by 32 bits, and more of
-/// them find no memory.
-pub fn queries(alloc: Global, repo: &Repo, options: &Options) -> Result<QueryNames, NoMemory>
-    ensures { IfOk result (λ names. names ≡ map query_name (queries options.now repo.now)) }
-{
-    let mut names = QueryNames::new(alloc);
-    add_all_names(
-        repo,
-        repo.pkgs.items(),
-        repo.bodies.items(),
-        options,
-        &mut names,
-    )?;
-    Ok(names)
 }

@@ -30,6 +30,24 @@ pub struct Judged {
     pub queries: u32,
 }
 
+/// The reports of a scan, in order, equal ones once; and one record for each distinct query by the bytes of its gates, in
+/// the order of first use, with the answer of the first backed record among the given ones where there is one. Each
+/// query is lowered at most once, and each distinct one without such a record is solved once. The first query that is refused
+/// ends it.
+pub fn judge<L: Ledger>(
+    alloc: Global,
+    repo: &Repo,
+    options: &Options,
+    certs: &Known,
+    steps: &mut Steps<L>,
+) -> Result<Judged, JudgeFault>
+    ensures { JudgesAll options.now certs.now repo.now steps.old steps.new result }
+{
+    let index = PkgIndex::new(alloc, &repo.pkgs)?;
+    let ruled = RuledFlags::new(alloc, repo.profiles.items())?;
+    judge_over(alloc, repo, &index, &ruled, options, certs, steps)
+}
+
 fn judge_indexed<'a, L: Ledger>(
     alloc: Global,
     repo: &'a Repo,
@@ -93,22 +111,4 @@ fn judge_over<L: Ledger>(
     ensures { JudgesAll options.now certs.now repo.now steps.old steps.new result }
 {
     judge_indexed(alloc, &*repo, &*index, ruled, options, certs, steps)
-}
-
-/// The reports of a scan, in order, equal ones once; and one record for each distinct query by the bytes of its gates, in
-/// the order of first use, with the answer of the first backed record among the given ones where there is one. Each
-/// query is lowered at most once, and each distinct one without such a record is solved once. The first query that is refused
-/// ends it.
-pub fn judge<L: Ledger>(
-    alloc: Global,
-    repo: &Repo,
-    options: &Options,
-    certs: &Known,
-    steps: &mut Steps<L>,
-) -> Result<Judged, JudgeFault>
-    ensures { JudgesAll options.now certs.now repo.now steps.old steps.new result }
-{
-    let index = PkgIndex::new(alloc, &repo.pkgs)?;
-    let ruled = RuledFlags::new(alloc, repo.profiles.items())?;
-    judge_over(alloc, repo, &index, &ruled, options, certs, steps)
 }

@@ -4,8 +4,8 @@ use Rattle.std.specs.Prelude.{◌==◌}
 use Rattle.gv_defaults.specs.declared.items.Assigned.{Assigned}
 use Rattle.gv_defaults.specs.declared.items.Item.TheVariants.{Gap, Assignment as Assigns, Fault}
 use Rattle.gv_defaults.specs.Quotes.{is_space}
-use Rattle.gv_defaults.specs.Assignments.{size, assignment_at, line_after, lines_after, comment_len, with_first, read_on}
-use Rattle.gv_defaults.specs.Items.{seen, IsAssigned, IsItem}
+use Rattle.gv_defaults.specs.Assignments.{size, assignment_at, line_after, comment_len, with_first, read_on}
+use Rattle.gv_defaults.specs.Items.{lines_after, seen, IsAssigned, IsItem}
 
 -- bytes that belong to what was read are passed over, line feeds counted
 pub passed_over : (line n : ℕ) (bytes : List ℕ) → read_on line n bytes ≡ read_on (lines_after line (take n bytes)) zero (drop n bytes)

@@ -13,13 +13,13 @@ use Rattle.gv_base.specs.Order.{byte_cmp}
 use Rattle.gv_defaults.specs.declared.items.Assigned.{Assigned}
 use Rattle.gv_defaults.specs.declared.items.Item.{Item}
 use Rattle.gv_defaults.specs.declared.items.Item.TheVariants.{Gap, Assignment as Assigns, Fault}
-use Rattle.gv_defaults.specs.Assignments.{Assignment, File, size, lines_after, with_first, read_on, file_of}
-use Rattle.gv_defaults.specs.Items.{seen, IsItem}
-use Rattle.gv_defaults.specs.LookUp.{text_before, stands_for}
+use Rattle.gv_defaults.specs.Assignments.{Assignment, File, size, with_first, read_on, file_of}
+use Rattle.gv_defaults.specs.Items.{lines_after, seen, IsItem}
+use Rattle.gv_defaults.specs.LookUp.{text_before}
+use Rattle.gv_defaults.specs.Reads.{stands_for, item_len, with_item, Keeps, IsLeft, IsReading}
 use Rattle.gv_defaults.specs.Meaning.{meaning_of}
 use Rattle.gv_defaults.specs.Settings.{VarMap}
 use Rattle.gv_defaults.specs.Values.{Values, value_in, looked_up, with_value, values_of}
-use Rattle.gv_defaults.specs.Reads.{item_len, with_item, Keeps, IsLeft, IsReading}
 
 -- a look-up behind an insertion
 pub got : {X : Type 0} (map : ByteMap X) (name : List ℕ) (x : X) (q : List ℕ) → get (insert map name x) q ≡ cond (bytes_eq q name) (Some x) (get map q)

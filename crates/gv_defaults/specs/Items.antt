@@ -1,9 +1,12 @@
 -- What private contracts say of a file that is read item by item.
-use Rattle.std.specs.Prelude.{◌≡◌, ℕ, ◌<◌, ◌≤◌, zero, List, [], Some, length, take, drop}
+use Rattle.std.specs.Prelude.{◌≡◌, ℕ, ◌<◌, ◌≤◌, zero, List, [], Some, length, take, drop, fold}
 use Rattle.gv_defaults.specs.declared.items.Assigned.{Assigned}
 use Rattle.gv_defaults.specs.declared.items.Item.{Item}
 use Rattle.gv_defaults.specs.declared.items.Item.TheVariants.{Gap, Assignment as Assigns, Fault}
-use Rattle.gv_defaults.specs.Assignments.{Assignment, File, size, assignment_at, lines_after, with_first, read_on}
+use Rattle.gv_defaults.specs.Assignments.{Assignment, File, size, assignment_at, with_first, read_on, line_after}
+
+abbrev pub lines_after : ℕ → List ℕ → ℕ
+lines_after line bytes = fold line_after line bytes
 
 abbrev pub seen : Assigned → Assignment
 seen a = record { name = a.name.now; text = a.text.now }

@@ -6,10 +6,15 @@ use Rattle.gv_defaults.specs.declared.items.Item.{Item}
 use Rattle.gv_defaults.specs.declared.items.Item.TheVariants.{Gap, Assignment as Assigns, Fault}
 use Rattle.gv_defaults.specs.Assignments.{size, read_on, file_of}
 use Rattle.gv_defaults.specs.Items.{seen}
-use Rattle.gv_defaults.specs.LookUp.{text_before, stands_for}
+use Rattle.gv_defaults.specs.LookUp.{text_before}
 use Rattle.gv_defaults.specs.Meaning.{meaning_of}
 use Rattle.gv_defaults.specs.Settings.{VarMap}
 use Rattle.gv_defaults.specs.Values.{Values, value_in, with_value, values_of}
+use Rattle.std.specs.Option.{unwrap_or}
+
+-- the value earlier in the file, else the one before it
+abbrev pub stands_for : ByteMap (List ℕ) → VarMap → List ℕ → List ℕ
+stands_for values before name = unwrap_or (get values name) (text_before (get before) name)
 
 -- how many bytes an item has; none of a fault
 abbrev pub item_len : Item → Option ℕ

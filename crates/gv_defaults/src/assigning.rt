@@ -4,9 +4,9 @@
 ghost use Rattle.std.specs.Prelude.{◌≡◌, IfOk, OnOk};
 ghost use Rattle.std.specs.FinMap as finite;
 ghost use Rattle.gv_base.specs.ByteMap.{map_of};
-ghost use Rattle.gv_defaults.specs.Assignments.{line_after, lines_after};
+ghost use Rattle.gv_defaults.specs.Assignments.{line_after};
+ghost use Rattle.gv_defaults.specs.Items.{lines_after, IsItem};
 ghost use Rattle.gv_defaults.specs.Reads.{item_len, with_item, IsReading};
-ghost use Rattle.gv_defaults.specs.Items.{IsItem};
 
 use crate::Vars;
 use crate::items::{Item, first_item};

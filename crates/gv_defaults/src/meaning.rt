@@ -6,7 +6,7 @@ ghost use Rattle.std.specs.FinMap as finite;
 ghost use Rattle.std.specs.Option.{option_copied};
 ghost use Rattle.gv_base.specs.ByteMap.{map_of};
 ghost use Rattle.gv_defaults.specs.Meaning.{meaning_of};
-ghost use Rattle.gv_defaults.specs.LookUp.{stands_for};
+ghost use Rattle.gv_defaults.specs.Reads.{stands_for};
 ghost use Rattle.gv_defaults.specs.Steps.{meant_by};
 
 use crate::Vars;

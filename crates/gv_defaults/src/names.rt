@@ -16,31 +16,6 @@ pub(crate) struct Reference<'a> {
     pub(crate) len: usize,
 }
 
-fn is_digit(b: u8) -> bool
-    ensures { result ≡ is_digit b }
-{
-    b'0' <= b && b <= b'9'
-}
-
-fn is_name_byte(b: u8) -> bool
-    ensures { result ≡ is_name_byte b }
-{
-    is_digit(b) || (b'A' <= b && b <= b'Z') || (b'a' <= b && b <= b'z') || b == b'_'
-}
-
-// How many bytes of a name stand at the front, be there a digit first or not.
-fn run_len(bytes: &[u8]) -> usize
-    ensures within { result ≤ length bytes.now }
-    ensures len { result ≡ prefix_len is_name_byte bytes.now }
-{
-    for (i, b) in bytes.iter().enumerate() {
-        if !is_name_byte(*b) {
-            return i;
-        }
-    }
-    bytes.len()
-}
-
 /// How many bytes the longest name at the front has; 0 where there is none.
 pub(crate) fn name_len(bytes: &[u8]) -> usize
     ensures within { result ≤ length bytes.now }
@@ -67,6 +42,31 @@ pub(crate) fn name_behind(bytes: &[u8]) -> Option<Reference<'_>>
             }
         }
     }
+}
+
+fn is_digit(b: u8) -> bool
+    ensures { result ≡ is_digit b }
+{
+    b'0' <= b && b <= b'9'
+}
+
+fn is_name_byte(b: u8) -> bool
+    ensures { result ≡ is_name_byte b }
+{
+    is_digit(b) || (b'A' <= b && b <= b'Z') || (b'a' <= b && b <= b'z') || b == b'_'
+}
+
+// How many bytes of a name stand at the front, be there a digit first or not.
+fn run_len(bytes: &[u8]) -> usize
+    ensures within { result ≤ length bytes.now }
+    ensures len { result ≡ prefix_len is_name_byte bytes.now }
+{
+    for (i, b) in bytes.iter().enumerate() {
+        if !is_name_byte(*b) {
+            return i;
+        }
+    }
+    bytes.len()
 }
 
 // A name and the brace that closes it.

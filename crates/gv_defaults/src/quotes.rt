@@ -36,39 +36,11 @@ pub(crate) fn value_len(bytes: &[u8]) -> Option<usize>
     }
 }
 
-fn stops(quotes: Quotes, taken: bool, b: u8) -> bool
-    ensures { result ≡ (if taken then false else ends quotes b) }
-{
-    if taken { false } else { ends(quotes, b) }
-}
-
-// The quotes behind a byte, and whether it takes the next one along.
-fn after(quotes: Quotes, taken: bool, b: u8) -> (Quotes, bool)
-    ensures quotes { result.0 ≡ (if taken then quotes else quotes_after quotes b) }
-    ensures taken { result.1 ≡ (if taken then false else escapes quotes b) }
-{
-    if taken {
-        (quotes, false)
-    } else {
-        (quotes_after(quotes, b), escapes(quotes, b))
-    }
-}
-
 /// Space, tab, carriage return or line feed.
 pub(crate) fn is_space(b: u8) -> bool
     ensures { result ≡ is_space b }
 {
     b == b' ' || b == b'\t' || b == b'\r' || b == b'\n'
-}
-
-fn ends(quotes: Quotes, b: u8) -> bool
-    ensures { result ≡ ends quotes b }
-{
-    match quotes {
-        Quotes::Bare => is_space(b),
-        Quotes::Double => false,
-        Quotes::Single => false,
-    }
 }
 
 /// Whether the byte takes the next one along.
@@ -100,5 +72,33 @@ pub(crate) fn quotes_after(quotes: Quotes, b: u8) -> Quotes
             b'\'' => Quotes::Bare,
             _ => Quotes::Single,
         },
+    }
+}
+
+fn stops(quotes: Quotes, taken: bool, b: u8) -> bool
+    ensures { result ≡ (if taken then false else ends quotes b) }
+{
+    if taken { false } else { ends(quotes, b) }
+}
+
+// The quotes behind a byte, and whether it takes the next one along.
+fn after(quotes: Quotes, taken: bool, b: u8) -> (Quotes, bool)
+    ensures quotes { result.0 ≡ (if taken then quotes else quotes_after quotes b) }
+    ensures taken { result.1 ≡ (if taken then false else escapes quotes b) }
+{
+    if taken {
+        (quotes, false)
+    } else {
+        (quotes_after(quotes, b), escapes(quotes, b))
+    }
+}
+
+fn ends(quotes: Quotes, b: u8) -> bool
+    ensures { result ≡ ends quotes b }
+{
+    match quotes {
+        Quotes::Bare => is_space(b),
+        Quotes::Double => false,
+        Quotes::Single => false,
     }
 }

@@ -18,16 +18,6 @@ pub(crate) enum Kind {
     Absent,
 }
 
-fn kind_in(found: &Found) -> Kind
-    ensures { result ≡ kind_in found.now }
-{
-    match found {
-        Found::File(_) => Kind::File,
-        Found::Dir => Kind::Dir,
-        Found::Absent => Kind::Absent,
-    }
-}
-
 // What is at a path of the tree. A file that is too large is a file.
 #[tactic(auto, using(crate::proofs::Inners::told_kind, crate::proofs::Inners::large_kind))]
 pub(crate) fn kind_of<T: Tree>(alloc: Global, tree: &mut T, path: &Text) -> Result<Kind, TreeFault>
@@ -78,4 +68,14 @@ pub(crate) fn path_within(alloc: Global, path: &Text, name: &Text) -> Result<Tex
     inner.append(b"/")?;
     inner.append(name.bytes())?;
     Ok(inner)
+}
+
+fn kind_in(found: &Found) -> Kind
+    ensures { result ≡ kind_in found.now }
+{
+    match found {
+        Found::File(_) => Kind::File,
+        Found::Dir => Kind::Dir,
+        Found::Absent => Kind::Absent,
+    }
 }

@@ -5,6 +5,16 @@ ghost use Rattle.gv_edits.specs.Length.{digits_behind, is_decimal, is_digit, len
 
 const MOST: u32 = 16_777_216;
 
+/// The number that a word is: digits without a leading zero but for `0` itself, at most the most bytes of a file.
+pub(crate) fn length_of(word: &[u8]) -> Option<u32>
+    ensures { result ≡ length_of word.now }
+{
+    if !is_decimal(word) {
+        return None;
+    }
+    number_of(word)
+}
+
 fn is_digit(b: u8) -> bool
     ensures { result ≡ is_digit b }
 {
@@ -47,14 +57,4 @@ fn number_of(digits: &[u8]) -> Option<u32>
         n = more;
     }
     Some(n)
-}
-
-/// The number that a word is: digits without a leading zero but for `0` itself, at most the most bytes of a file.
-pub(crate) fn length_of(word: &[u8]) -> Option<u32>
-    ensures { result ≡ length_of word.now }
-{
-    if !is_decimal(word) {
-        return None;
-    }
-    number_of(word)
 }

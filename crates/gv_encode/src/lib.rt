@@ -6,9 +6,9 @@
 #![tactic(auto)]
 
 mod encoding;
-mod law;
+mod laws;
 #[cfg(test)]
 mod tests;
 
 pub use encoding::encode;
-pub use law::encoding_law;
+pub use laws::encoding_law;

@@ -13,11 +13,11 @@ use Rattle.gv_atom.specs.declared.atom.Block.TheVariants.{No, Weak, Strong}
 use Rattle.gv_atom.specs.declared.items.Ask.{Ask}
 use Rattle.gv_atom.specs.declared.items.Ask.TheVariants as asks
 use Rattle.gv_atom.specs.declared.items.UseItem.{UseItem}
-use Rattle.gv_atom.specs.UseItems.{asked, asks_parent, is_blocker}
+use Rattle.gv_atom.specs.Items.{asked, asks_parent, is_blocker}
 use Rattle.gv_expr.specs.Dep.{Dep, Deps, deps, leaf, all, any, when, end, more}
-use Rattle.gv_expr.specs.Mentioned.{dep_mentions, item_mentions, req_mentions}
-use Rattle.gv_expr.specs.Req as req
-use Rattle.gv_expr.specs.Req.{Req, Reqs}
+use Rattle.gv_expr.specs.Mentions.{dep_mentions, item_mentions, req_mentions}
+use Rattle.gv_expr.specs.Required as req
+use Rattle.gv_expr.specs.Required.{Req, Reqs}
 use Rattle.gv_facts.specs.declared.kinds.FlagState.{FlagState}
 use Rattle.gv_facts.specs.declared.kinds.Level.{Level}
 use Rattle.gv_facts.specs.declared.pkg.Pkg.{Pkg}

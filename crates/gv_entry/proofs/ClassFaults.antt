@@ -4,9 +4,9 @@ use Rattle.std.specs.Prelude.{Option, is_none, if◌then◌else◌}
 use Rattle.gv_expr.specs.declared.fault.ExprKind.{ExprKind}
 use Rattle.gv_expr.specs.Dep.{Dep}
 use Rattle.gv_expr.specs.DepRead.{read_dep}
-use Rattle.gv_expr.specs.Req.{Req}
-use Rattle.gv_expr.specs.ReqRead.{read_required}
-use Rattle.gv_expr.specs.Tokens.{tokens_of}
+use Rattle.gv_expr.specs.Required.{Req}
+use Rattle.gv_expr.specs.RequiredRead.{read_required}
+use Rattle.gv_expr.specs.Token.{tokens_of}
 use Rattle.gv_expr.specs.TokenFaults.{Language, dependency, required_use, first_fault}
 use Rattle.gv_facts.specs.declared.kinds.Class.{Class}
 use Rattle.gv_facts.specs.declared.kinds.Class.TheVariants.{Required}

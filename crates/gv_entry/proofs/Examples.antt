@@ -6,8 +6,8 @@ use Rattle.gv_expr.specs.declared.fault.ExprKind.TheVariants.{TooMany, Depth, St
 use Rattle.gv_expr.specs.Dep.{Dep}
 use Rattle.gv_expr.specs.DepGrammar.{item_text}
 use Rattle.gv_expr.specs.DepRead.{read_dep}
-use Rattle.gv_expr.specs.Req.{Req}
-use Rattle.gv_expr.specs.ReqRead.{read_required}
+use Rattle.gv_expr.specs.Required.{Req}
+use Rattle.gv_expr.specs.RequiredRead.{read_required}
 use Rattle.gv_facts.specs.declared.kinds.Class.TheVariants.{Required, Depend, Bdepend, Rdepend, Pdepend, Idepend}
 use Rattle.gv_facts.specs.declared.kinds.Eapi.{Eapi}
 use Rattle.gv_facts.specs.declared.kinds.Eapi.TheVariants.{Five, Six, Seven, Eight}

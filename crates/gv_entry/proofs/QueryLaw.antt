@@ -11,8 +11,8 @@ use Rattle.gv_base.specs.Laws.{InOrderLaw}
 use Rattle.gv_base.specs.Least.{HasNone, IsLeast, Lesser}
 use Rattle.gv_base.specs.Order.{has_text, in_order}
 use Rattle.gv_expr.specs.Dep.{Dep, deps}
-use Rattle.gv_expr.specs.Mentioned.{dep_mentions, req_mentions}
-use Rattle.gv_expr.specs.Req.{Req, reqs}
+use Rattle.gv_expr.specs.Mentions.{dep_mentions, req_mentions}
+use Rattle.gv_expr.specs.Required.{Req, reqs}
 use Rattle.gv_facts.specs.declared.kinds.FlagState.{FlagState}
 use Rattle.gv_facts.specs.declared.kinds.FlagState.TheVariants.{Absent, Off, On, Free}
 use Rattle.gv_entry.specs.Allowed.{Allowed, Failing, IsFit, Parent, agrees, assignment, bit_or, class_holds, is_allowed, is_failing, is_forced, is_free, item_holds, parent_state, query_flags, required_holds}

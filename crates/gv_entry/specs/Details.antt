@@ -2,7 +2,7 @@
 use Rattle.std.specs.Prelude.{ℕ, Bool, is_some, if◌then◌else◌, List, [], ◌∷◌, ◌++◌, Option, None, Some, option_map, option_to_list, map, codes, decimal}
 use Rattle.gv_expr.specs.declared.fault.ExprKind.{ExprKind}
 use Rattle.gv_expr.specs.declared.fault.ExprKind.TheVariants.{TooMany, Depth, Stray, NotHere, BadFlag, BadAtom, Unclosed}
-use Rattle.gv_expr.specs.Tokens.{tokens_of}
+use Rattle.gv_expr.specs.Token.{tokens_of}
 use Rattle.gv_expr.specs.TokenFaults.{Language, dependency, required_use, first_fault}
 use Rattle.gv_facts.specs.declared.kinds.Eapi.{Eapi}
 use Rattle.gv_facts.specs.declared.kinds.Class.{Class}

@@ -1,6 +1,5 @@
 -- Digests, as 32 hexadecimal digits of either case, and the list of eclasses (PMS chapter 14, md5-dict).
 use Rattle.std.specs.Prelude.{ℕ, ◌+◌, ◌*◌, ◌-◌, ◌==◌, nat_le, ◌&&◌, if◌then◌else◌, List, [], ◌∷◌, length, Option, None, Some}
-use Rattle.std.specs.Borrow.{Bor}
 use Rattle.std.specs.List.{slice_split}
 use Rattle.gv_base.specs.Paths.{is_part}
 use Rattle.gv_base.specs.Words.{is_empty}
@@ -38,11 +37,6 @@ eclasses_in (name ∷ digest ∷ rest) = with_eclass name (digest_in digest) (ec
 -- the texts between the tabs
 abbrev pub between_tabs : List ℕ → List (List ℕ)
 between_tabs value = slice_split (λ b. b == 9) value
-
--- the texts of what is left, if anything is
-abbrev pub fields_left : Option (Bor (List ℕ)) → List (List ℕ)
-fields_left None = []
-fields_left (Some bytes) = between_tabs bytes.now
 
 -- name, digest, name, digest, separated by tabs
 abbrev pub eclasses_of : List ℕ → Option (List Eclass)

@@ -6,7 +6,7 @@ use Rattle.gv_version.specs.Bytes.{begins_with, is_one_of}
 use Rattle.gv_version.specs.Names.{split_pf}
 use Rattle.gv_expr.specs.Dep.{Dep}
 use Rattle.gv_expr.specs.DepRead.{read_dep}
-use Rattle.gv_expr.specs.ReqRead.{read_required}
+use Rattle.gv_expr.specs.RequiredRead.{read_required}
 use Rattle.gv_facts.specs.declared.kinds.Eapi.{Eapi}
 use Rattle.gv_facts.specs.declared.kinds.Class.{Class}
 use Rattle.gv_facts.specs.declared.kinds.Class.TheVariants.{Required, Depend, Bdepend, Rdepend, Pdepend, Idepend}

@@ -2,7 +2,7 @@
 use Rattle.std.specs.Prelude.{◌≡◌, ◌≢◌, ℕ, Bool, List, length, map}
 use Rattle.gv_base.specs.Least.{Lesser}
 use Rattle.gv_expr.specs.Dep.{Dep}
-use Rattle.gv_expr.specs.Req.{Req}
+use Rattle.gv_expr.specs.Required.{Req}
 use Rattle.gv_entry.specs.Allowed.{Parent, Allowed, Failing, assignment}
 use Rattle.gv_entry.specs.Queries.{class_flags, required_flags}
 

@@ -7,5 +7,6 @@ pub mod Holds
 pub mod Laws
 pub mod Least
 pub mod LeastAssignments
+pub mod PrivateWords
 pub mod Queries
 pub mod Weight

@@ -1,8 +1,8 @@
 -- What the queries of a package ask: REQUIRED_USE alone, or with a class (PMS chapters 7 and 8).
 use Rattle.std.specs.Prelude.{ℕ, List, ◌++◌, Option, None}
 use Rattle.gv_expr.specs.Dep.{Dep, deps}
-use Rattle.gv_expr.specs.Mentioned.{dep_mentions, req_mentions}
-use Rattle.gv_expr.specs.Req.{Req, reqs}
+use Rattle.gv_expr.specs.Mentions.{dep_mentions, req_mentions}
+use Rattle.gv_expr.specs.Required.{Req, reqs}
 use Rattle.gv_facts.specs.declared.kinds.Class.{Class}
 use Rattle.gv_facts.specs.declared.kinds.Class.TheVariants.{Required, Depend, Bdepend, Rdepend, Pdepend, Idepend}
 use Rattle.gv_entry.specs.declared.entry.Body.{Body}

@@ -8,47 +8,6 @@ use gv_expr::ExprKind;
 use gv_facts::{Class, class_text};
 use std::alloc::Global;
 
-fn kind_text(kind: ExprKind) -> &'static [u8]
-    ensures { result.now ≡ kind_text kind }
-{
-    match kind {
-        ExprKind::TooMany => b"too many tokens",
-        ExprKind::Depth => b"depth",
-        ExprKind::Stray => b"stray token",
-        ExprKind::NotHere => b"not allowed here",
-        ExprKind::BadFlag => b"bad flag",
-        ExprKind::BadAtom => b"bad atom",
-        ExprKind::Unclosed => b"unclosed group",
-    }
-}
-
-// A text, another, and a number.
-fn numbered(alloc: Global, front: &[u8], middle: &[u8], number: u64) -> Result<Text, NoMemory>
-    ensures { IfOk result (λ text. text ≡ front.now ++ (middle.now ++ decimal number)) }
-{
-    let digits = number.to_string(alloc)?;
-    let mut text = Text::of(alloc, front)?;
-    text.append(middle)?;
-    text.append(digits.as_bytes())?;
-    Ok(text)
-}
-
-fn token_detail(alloc: Global, class: Class, token: u32, kind: ExprKind) -> Result<Text, NoMemory>
-    ensures { IfOk result (λ text. text ≡ token_detail class (token, kind)) }
-{
-    let mut text = numbered(alloc, class_text(class), b": token ", u64::from(token))?;
-    text.append(b": ")?;
-    text.append(kind_text(kind))?;
-    Ok(text)
-}
-
-fn note(errors: &mut EntryErrors, detail: Text) -> Result<(), NoMemory>
-    ensures { OnOk result (errors.new ≡ errors.old ++ errors_of (detail ∷ [])) }
-{
-    errors.add(EntryError { detail })?;
-    Ok(())
-}
-
 /// Adds an error with this text as its detail.
 pub fn note_text(alloc: Global, text: &[u8], errors: &mut EntryErrors) -> Result<(), NoMemory>
     ensures { OnOk result (errors.new ≡ errors.old ++ errors_of (text.now ∷ [])) }
@@ -97,5 +56,46 @@ pub fn note_token(
     ensures { OnOk result (errors.new ≡ errors.old ++ errors_of (token_detail class (token, kind) ∷ [])) }
 {
     note(errors, token_detail(alloc, class, token, kind)?)?;
+    Ok(())
+}
+
+fn kind_text(kind: ExprKind) -> &'static [u8]
+    ensures { result.now ≡ kind_text kind }
+{
+    match kind {
+        ExprKind::TooMany => b"too many tokens",
+        ExprKind::Depth => b"depth",
+        ExprKind::Stray => b"stray token",
+        ExprKind::NotHere => b"not allowed here",
+        ExprKind::BadFlag => b"bad flag",
+        ExprKind::BadAtom => b"bad atom",
+        ExprKind::Unclosed => b"unclosed group",
+    }
+}
+
+// A text, another, and a number.
+fn numbered(alloc: Global, front: &[u8], middle: &[u8], number: u64) -> Result<Text, NoMemory>
+    ensures { IfOk result (λ text. text ≡ front.now ++ (middle.now ++ decimal number)) }
+{
+    let digits = number.to_string(alloc)?;
+    let mut text = Text::of(alloc, front)?;
+    text.append(middle)?;
+    text.append(digits.as_bytes())?;
+    Ok(text)
+}
+
+fn token_detail(alloc: Global, class: Class, token: u32, kind: ExprKind) -> Result<Text, NoMemory>
+    ensures { IfOk result (λ text. text ≡ token_detail class (token, kind)) }
+{
+    let mut text = numbered(alloc, class_text(class), b": token ", u64::from(token))?;
+    text.append(b": ")?;
+    text.append(kind_text(kind))?;
+    Ok(text)
+}
+
+fn note(errors: &mut EntryErrors, detail: Text) -> Result<(), NoMemory>
+    ensures { OnOk result (errors.new ≡ errors.old ++ errors_of (detail ∷ [])) }
+{
+    errors.add(EntryError { detail })?;
     Ok(())
 }

@@ -1,6 +1,7 @@
 //! Digests and the eclasses of an entry. O(bytes); `digest_of` and `digest_in` take no memory.
 ghost use Rattle.std.specs.Prelude.{◌≡◌, [], ◌∷◌, IfOk, MatchOption};
-ghost use Rattle.gv_entry.specs.Digests.{between_tabs, digest_in, eclasses_in, eclasses_of, fields_left};
+ghost use Rattle.gv_entry.specs.Digests.{between_tabs, digest_in, eclasses_in, eclasses_of};
+ghost use Rattle.gv_entry.specs.PrivateWords.{fields_left};
 ghost use Rattle.md5.specs.Md5.{md5};
 
 use crate::{Eclass, Eclasses};
@@ -22,6 +23,17 @@ pub fn digest_in(text: &[u8]) -> Option<[u8; 16]>
     ensures { result ≡ digest_in text.now }
 {
     <[u8; 16] as FromHex>::from_hex(text).ok()
+}
+
+/// The eclasses of a value of `_eclasses_`, which is empty or pairs of a name, one part of a path, and 32 hexadecimal
+/// digits, separated by tabs.
+pub fn eclasses_of(alloc: Global, value: &[u8]) -> Result<Option<Eclasses>, NoMemory>
+    ensures { IfOk result (λ eclasses. eclasses ≡ eclasses_of value.now) }
+{
+    if value.is_empty() {
+        return Ok(Some(Eclasses::new(alloc)));
+    }
+    read_pairs(alloc, value)
 }
 
 // The text before the first tab, and what is behind the tab.
@@ -68,15 +80,4 @@ fn read_pairs(alloc: Global, value: &[u8]) -> Result<Option<Eclasses>, NoMemory>
         eclasses.add(Eclass { name, digest })?;
     }
     Ok(Some(eclasses))
-}
-
-/// The eclasses of a value of `_eclasses_`, which is empty or pairs of a name, one part of a path, and 32 hexadecimal
-/// digits, separated by tabs.
-pub fn eclasses_of(alloc: Global, value: &[u8]) -> Result<Option<Eclasses>, NoMemory>
-    ensures { IfOk result (λ eclasses. eclasses ≡ eclasses_of value.now) }
-{
-    if value.is_empty() {
-        return Ok(Some(Eclasses::new(alloc)));
-    }
-    read_pairs(alloc, value)
 }

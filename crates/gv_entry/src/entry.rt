@@ -57,42 +57,6 @@ pub struct Entry {
     pub errors: EntryErrors,
 }
 
-fn copy_required(alloc: Global, required: &Option<UseExpr>) -> Result<Option<UseExpr>, NoMemory>
-    ensures { IfOk result (λ copy. copy ≡ required.now) }
-{
-    match required {
-        Some(required) => Ok(Some(required.copy(alloc)?)),
-        None => Ok(None),
-    }
-}
-
-fn copy_dep(alloc: Global, dep: &Option<DepExpr>) -> Result<Option<DepExpr>, NoMemory>
-    ensures { IfOk result (λ copy. copy ≡ dep.now) }
-{
-    match dep {
-        Some(dep) => Ok(Some(dep.copy(alloc)?)),
-        None => Ok(None),
-    }
-}
-
-fn copy_eclasses(alloc: Global, eclasses: &Option<Eclasses>) -> Result<Option<Eclasses>, NoMemory>
-    ensures { IfOk result (λ copy. copy ≡ eclasses.now) }
-{
-    match eclasses {
-        Some(eclasses) => Ok(Some(eclasses.copy(alloc)?)),
-        None => Ok(None),
-    }
-}
-
-fn copy_head(alloc: Global, head: &Option<Pkg>) -> Result<Option<Pkg>, NoMemory>
-    ensures { IfOk result (λ copy. copy ≡ head.now) }
-{
-    match head {
-        Some(head) => Ok(Some(head.copy(alloc)?)),
-        None => Ok(None),
-    }
-}
-
 impl Eclass {
     /// An equal eclass.
     pub fn copy(&self, alloc: Global) -> Result<Eclass, NoMemory>
@@ -250,5 +214,41 @@ impl EntryErrors {
             errors.add(item.copy(alloc)?)?;
         }
         Ok(errors)
+    }
+}
+
+fn copy_required(alloc: Global, required: &Option<UseExpr>) -> Result<Option<UseExpr>, NoMemory>
+    ensures { IfOk result (λ copy. copy ≡ required.now) }
+{
+    match required {
+        Some(required) => Ok(Some(required.copy(alloc)?)),
+        None => Ok(None),
+    }
+}
+
+fn copy_dep(alloc: Global, dep: &Option<DepExpr>) -> Result<Option<DepExpr>, NoMemory>
+    ensures { IfOk result (λ copy. copy ≡ dep.now) }
+{
+    match dep {
+        Some(dep) => Ok(Some(dep.copy(alloc)?)),
+        None => Ok(None),
+    }
+}
+
+fn copy_eclasses(alloc: Global, eclasses: &Option<Eclasses>) -> Result<Option<Eclasses>, NoMemory>
+    ensures { IfOk result (λ copy. copy ≡ eclasses.now) }
+{
+    match eclasses {
+        Some(eclasses) => Ok(Some(eclasses.copy(alloc)?)),
+        None => Ok(None),
+    }
+}
+
+fn copy_head(alloc: Global, head: &Option<Pkg>) -> Result<Option<Pkg>, NoMemory>
+    ensures { IfOk result (λ copy. copy ≡ head.now) }
+{
+    match head {
+        Some(head) => Ok(Some(head.copy(alloc)?)),
+        None => Ok(None),
     }
 }

@@ -1,6 +1,6 @@
 //! Reading a cache entry (PMS chapter 14, md5-dict). O(bytes).
 ghost use Rattle.std.specs.Prelude.{◌≡◌, ◌+◌, ◌++◌, [], true, codes, drop, None, Some, take, unwrap_or, IfOk, IsSome, OnOk};
-ghost use Rattle.gv_expr.specs.ReqRead.{read_required};
+ghost use Rattle.gv_expr.specs.RequiredRead.{read_required};
 ghost use Rattle.gv_expr.specs.TokenFaults.{dependency};
 ghost use Rattle.gv_facts.specs.declared.kinds.Class.TheVariants.{Required};
 ghost use Rattle.gv_facts.specs.Classes.{class_text};
@@ -21,6 +21,49 @@ use gv_expr::{DepExpr, ExprFault, UseExpr, read_dep, read_required};
 use gv_facts::{Class, Eapi, Pkg, has_class};
 use gv_version::{Version, split_pf, split_pf_law};
 use std::alloc::Global;
+
+// The package whose entry it is.
+#[derive(Clone, Copy)]
+struct Named<'a> {
+    category: &'a Text,
+    pf: &'a Text,
+}
+
+// The words of the keys that have words.
+#[derive(Drop)]
+struct EntryWords {
+    keywords: Texts,
+    iuse: Texts,
+    properties: Texts,
+}
+
+/// The entry that the bytes are, of the package with this category and this PF. Of two lines of a key the first counts, a
+/// key without a line is empty, and lines of other keys are ignored. All errors are told, but an EAPI that isn't
+/// supported stands alone. The PF has to be one: `split_pf` divides it into a name and a version.
+pub fn read_entry(
+    alloc: Global,
+    category: &Text,
+    pf: &Text,
+    bytes: &[u8],
+) -> Result<Entry, NoMemory>
+    requires { IsSome (split_pf pf.now) }
+    ensures { IfOk result (λ entry. entry ≡ entry_of category.now pf.now bytes.now) }
+{
+    let text = EntryText::new(alloc, bytes)?;
+    let named = Named { category, pf };
+    let mut errors = EntryErrors::new(alloc);
+    match eapi_of(text.value_of(b"EAPI")) {
+        Some(eapi) => {
+            let head = head_of(alloc, &named, eapi, &text, &mut errors)?;
+            let body = body_of(alloc, eapi, &text, &mut errors)?;
+            entry_with(alloc, &text, head, body, errors)
+        }
+        None => {
+            note_text(alloc, b"EAPI: unsupported", &mut errors)?;
+            entry_with(alloc, &text, None, empty_body(alloc), errors)
+        }
+    }
+}
 
 fn required_in(
     alloc: Global,
@@ -115,21 +158,6 @@ fn name_and_version(alloc: Global, pf: &[u8]) -> Result<(Text, Version), NoMemor
     let name = Text::of(alloc, name)?;
     let version = Version::of(alloc, version)?;
     Ok((name, version))
-}
-
-// The package whose entry it is.
-#[derive(Clone, Copy)]
-struct Named<'a> {
-    category: &'a Text,
-    pf: &'a Text,
-}
-
-// The words of the keys that have words.
-#[derive(Drop)]
-struct EntryWords {
-    keywords: Texts,
-    iuse: Texts,
-    properties: Texts,
 }
 
 fn words_in(alloc: Global, text: &EntryText<'_>) -> Result<EntryWords, NoMemory>
@@ -240,32 +268,4 @@ fn entry_with(
         body,
         errors,
     })
-}
-
-/// The entry that the bytes are, of the package with this category and this PF. Of two lines of a key the first counts, a
-/// key without a line is empty, and lines of other keys are ignored. All errors are told, but an EAPI that isn't
-/// supported stands alone. The PF has to be one: `split_pf` divides it into a name and a version.
-pub fn read_entry(
-    alloc: Global,
-    category: &Text,
-    pf: &Text,
-    bytes: &[u8],
-) -> Result<Entry, NoMemory>
-    requires { IsSome (split_pf pf.now) }
-    ensures { IfOk result (λ entry. entry ≡ entry_of category.now pf.now bytes.now) }
-{
-    let text = EntryText::new(alloc, bytes)?;
-    let named = Named { category, pf };
-    let mut errors = EntryErrors::new(alloc);
-    match eapi_of(text.value_of(b"EAPI")) {
-        Some(eapi) => {
-            let head = head_of(alloc, &named, eapi, &text, &mut errors)?;
-            let body = body_of(alloc, eapi, &text, &mut errors)?;
-            entry_with(alloc, &text, head, body, errors)
-        }
-        None => {
-            note_text(alloc, b"EAPI: unsupported", &mut errors)?;
-            entry_with(alloc, &text, None, empty_body(alloc), errors)
-        }
-    }
 }

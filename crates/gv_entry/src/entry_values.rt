@@ -66,23 +66,6 @@ impl<'a> EntryText<'a> {
     }
 }
 
-fn after_prefix<'a>(prefix: &[u8], line: &'a [u8]) -> Option<&'a [u8]>
-    ensures { MatchOption result (after_prefix prefix.now line.now ≡ None) (λ rest. after_prefix prefix.now line.now ≡ Some rest.now) }
-{
-    line.strip_prefix(prefix)
-}
-
-// What follows the key and `=` in the line.
-#[tactic(auto, using(crate::proofs::KeyLines::other_key, crate::proofs::KeyLines::key_there))]
-fn value_in<'a>(key: &[u8], line: &'a [u8]) -> Option<&'a [u8]>
-    ensures { MatchOption result (after_prefix (key.now ++ codes "=") line.now ≡ None) (λ value. after_prefix (key.now ++ codes "=") line.now ≡ Some value.now) }
-{
-    match after_prefix(key, line) {
-        Some(rest) => after_prefix(b"=", rest),
-        None => None,
-    }
-}
-
 /// The EAPI of this name, if it is supported.
 pub fn eapi_of(value: &[u8]) -> Option<Eapi>
     ensures { result ≡ eapi_of value.now }
@@ -100,25 +83,6 @@ pub fn eapi_of(value: &[u8]) -> Option<Eapi>
     }
 }
 
-// A slot that is its own sub-slot.
-fn slot_alone(alloc: Global, slot: &[u8]) -> Result<Option<(Text, Text)>, NoMemory>
-    ensures { IfOk result (λ both. both ≡ slot_in (slot.now ∷ [])) }
-{
-    if !is_slot(slot) {
-        return Ok(None);
-    }
-    Ok(Some((Text::of(alloc, slot)?, Text::of(alloc, slot)?)))
-}
-
-fn slot_and_sub(alloc: Global, slot: &[u8], sub: &[u8]) -> Result<Option<(Text, Text)>, NoMemory>
-    ensures { IfOk result (λ both. both ≡ slot_in (slot.now ∷ sub.now ∷ [])) }
-{
-    if !is_slot(slot) || !is_slot(sub) {
-        return Ok(None);
-    }
-    Ok(Some((Text::of(alloc, slot)?, Text::of(alloc, sub)?)))
-}
-
 /// The slot and the sub-slot of a value of SLOT, if it has their form. Without a sub-slot the slot is that too.
 pub fn slot_of(alloc: Global, value: &[u8]) -> Result<Option<(Text, Text)>, NoMemory>
     ensures { IfOk result (λ both. both ≡ slot_of value.now) }
@@ -134,32 +98,6 @@ pub fn slot_of(alloc: Global, value: &[u8]) -> Result<Option<(Text, Text)>, NoMe
         None => slot_and_sub(alloc, slot, sub),
         Some(_) => Ok(None),
     }
-}
-
-// The name of a keyword, without `~` or `-` in front.
-fn keyword_name(word: &[u8]) -> &[u8]
-    ensures { result.now ≡ unmarked (codes "~-") word.now }
-{
-    match word {
-        [b'~' | b'-', name @ ..] => name,
-        _ => word,
-    }
-}
-
-// A flag without `+` or `-` in front.
-fn flag_name(word: &[u8]) -> &[u8]
-    ensures { result.now ≡ unmarked (codes "+-") word.now }
-{
-    match word {
-        [b'+' | b'-', name @ ..] => name,
-        _ => word,
-    }
-}
-
-fn is_keyword_word(word: &[u8]) -> bool
-    ensures { result ≡ is_keyword_word word.now }
-{
-    word == b"-*".as_slice() || is_keyword(keyword_name(word))
 }
 
 /// The number, from 1, of the first word that isn't one of KEYWORDS.
@@ -208,4 +146,66 @@ pub fn plus_flags_of(alloc: Global, words: &Texts) -> Result<Texts, NoMemory>
         }
     }
     Ok(flags)
+}
+
+fn after_prefix<'a>(prefix: &[u8], line: &'a [u8]) -> Option<&'a [u8]>
+    ensures { MatchOption result (after_prefix prefix.now line.now ≡ None) (λ rest. after_prefix prefix.now line.now ≡ Some rest.now) }
+{
+    line.strip_prefix(prefix)
+}
+
+// What follows the key and `=` in the line.
+#[tactic(auto, using(crate::proofs::KeyLines::other_key, crate::proofs::KeyLines::key_there))]
+fn value_in<'a>(key: &[u8], line: &'a [u8]) -> Option<&'a [u8]>
+    ensures { MatchOption result (after_prefix (key.now ++ codes "=") line.now ≡ None) (λ value. after_prefix (key.now ++ codes "=") line.now ≡ Some value.now) }
+{
+    match after_prefix(key, line) {
+        Some(rest) => after_prefix(b"=", rest),
+        None => None,
+    }
+}
+
+// A slot that is its own sub-slot.
+fn slot_alone(alloc: Global, slot: &[u8]) -> Result<Option<(Text, Text)>, NoMemory>
+    ensures { IfOk result (λ both. both ≡ slot_in (slot.now ∷ [])) }
+{
+    if !is_slot(slot) {
+        return Ok(None);
+    }
+    Ok(Some((Text::of(alloc, slot)?, Text::of(alloc, slot)?)))
+}
+
+fn slot_and_sub(alloc: Global, slot: &[u8], sub: &[u8]) -> Result<Option<(Text, Text)>, NoMemory>
+    ensures { IfOk result (λ both. both ≡ slot_in (slot.now ∷ sub.now ∷ [])) }
+{
+    if !is_slot(slot) || !is_slot(sub) {
+        return Ok(None);
+    }
+    Ok(Some((Text::of(alloc, slot)?, Text::of(alloc, sub)?)))
+}
+
+// The name of a keyword, without `~` or `-` in front.
+fn keyword_name(word: &[u8]) -> &[u8]
+    ensures { result.now ≡ unmarked (codes "~-") word.now }
+{
+    match word {
+        [b'~' | b'-', name @ ..] => name,
+        _ => word,
+    }
+}
+
+// A flag without `+` or `-` in front.
+fn flag_name(word: &[u8]) -> &[u8]
+    ensures { result.now ≡ unmarked (codes "+-") word.now }
+{
+    match word {
+        [b'+' | b'-', name @ ..] => name,
+        _ => word,
+    }
+}
+
+fn is_keyword_word(word: &[u8]) -> bool
+    ensures { result ≡ is_keyword_word word.now }
+{
+    word == b"-*".as_slice() || is_keyword(keyword_name(word))
 }

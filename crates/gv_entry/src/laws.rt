@@ -1,7 +1,7 @@
 //! Laws of the definitions: each function does nothing, and its contract holds of all texts, packages, profiles, expressions and
 //! assignments.
 ghost use Rattle.gv_expr.specs.Dep.{Dep};
-ghost use Rattle.gv_expr.specs.Req.{Req};
+ghost use Rattle.gv_expr.specs.Required.{Req};
 ghost use Rattle.gv_entry.specs.Allowed.{Parent};
 ghost use Rattle.gv_entry.specs.Laws as law;
 ghost use Rattle.std.specs.Prelude.{List};

@@ -2,7 +2,7 @@
 use Rattle.std.proofs.Common.{◌≡◌, ℕ, ◌≤◌, Bool, true, false, List, length, None, refl}
 use Rattle.gv_version.specs.Names.{is_flag}
 use Rattle.gv_atom.specs.declared.atom.Atom.{Atom}
-use Rattle.gv_atom.specs.AtomText.{atom_text, is_atom}
+use Rattle.gv_atom.specs.Grammar.{atom_text, is_atom}
 use Rattle.gv_atom.specs.Laws.{IsWritten}
 use Rattle.gv_expr.specs.Dep.{Deps, leaf, all, any, when, end, more}
 use Rattle.gv_expr.specs.DepGrammar.{dep_tokens, AreDeps}

@@ -4,8 +4,8 @@ use Rattle.std.specs.Prelude.{◌&&◌, ◌↔◌, is_none, if◌then◌else◌}
 use Rattle.std.specs.List.{list_all}
 use Rattle.std.proofs.lemmas.Bool.{and_parts}
 use Rattle.gv_atom.specs.declared.atom.Atom.{Atom}
-use Rattle.gv_atom.specs.AtomRead.{Fault, atom_fault, read_atom}
-use Rattle.gv_atom.specs.AtomText.{atom_text, is_atom}
+use Rattle.gv_atom.specs.Reading.{Fault, atom_fault, read_atom}
+use Rattle.gv_atom.specs.Grammar.{atom_text, is_atom}
 use Rattle.gv_atom.specs.Laws.{IsRead}
 use Rattle.gv_expr.specs.declared.token.Token.{Token}
 use Rattle.gv_expr.specs.declared.token.Token.TheVariants as tokens
@@ -17,7 +17,7 @@ use Rattle.gv_expr.specs.DepRead.{dep_groups, with_leaf, with_group, read_dep}
 use Rattle.gv_expr.specs.Laws.{IsDep}
 use Rattle.gv_expr.specs.Leaves.{are_atoms}
 use Rattle.gv_expr.specs.TokenFaults.{dependency, fault_from, first_fault}
-use Rattle.gv_expr.specs.Tokens.{tokens_of}
+use Rattle.gv_expr.specs.Token.{tokens_of}
 use Rattle.gv_expr.proofs.Bools.{some_is}
 use Rattle.gv_expr.proofs.DepFaults.{AreWritten}
 use Rattle.gv_expr.proofs.DepLaw.{is_of, is_read}

@@ -5,12 +5,12 @@ use Rattle.gv_expr.specs.Dep.{Dep, Deps, leaf, all, any, when, end, more, deps, 
 use Rattle.gv_expr.specs.DepGrammar.{dep_tokens, AreDeps, IsDepOf}
 use Rattle.gv_expr.specs.DepRead.{dep_groups, read_dep}
 use Rattle.gv_expr.specs.Leaves.{are_atoms}
-use Rattle.gv_expr.specs.ExprFaults.{FaultIs, GivesDep}
+use Rattle.gv_expr.specs.Fault.{FaultIs, GivesDep}
 use Rattle.gv_expr.specs.declared.fault.ExprFault.{ExprFault}
 use Rattle.gv_expr.specs.declared.fault.ExprFault.TheVariants.{Bad, NoMemory}
 use Rattle.gv_expr.specs.declared.fault.ExprKind.{ExprKind}
 use Rattle.gv_expr.specs.TokenFaults.{dependency, first_fault}
-use Rattle.gv_expr.specs.Tokens.{tokens_of}
+use Rattle.gv_expr.specs.Token.{tokens_of}
 use Rattle.gv_expr.proofs.Bools.{none_or_some, some_is}
 use Rattle.gv_expr.proofs.DepReadAgain.{AtomsRead, read_again}
 use Rattle.gv_expr.proofs.DepFaults.{AreWritten, no_fault, has_no_fault}

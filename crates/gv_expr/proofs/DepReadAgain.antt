@@ -1,7 +1,7 @@
 -- What is written of a dependency is read back as it was, where each of its atoms is.
 use Rattle.std.proofs.Common.{◌≡◌, List, [], ◌∷◌, ◌++◌, refl, ap, sym, ◌∙◌, append_assoc, append-nil, Some}
-use Rattle.gv_atom.specs.AtomText.{atom_text}
-use Rattle.gv_atom.specs.AtomRead.{read_atom}
+use Rattle.gv_atom.specs.Grammar.{atom_text}
+use Rattle.gv_atom.specs.Reading.{read_atom}
 use Rattle.gv_expr.specs.declared.token.Token.{Token}
 use Rattle.gv_expr.specs.declared.token.Token.TheVariants as tokens
 use Rattle.gv_expr.specs.Dep.{Dep, Deps, leaf, all, any, when, end, more, deps, listed, top}

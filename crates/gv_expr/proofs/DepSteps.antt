@@ -3,8 +3,8 @@ use Rattle.std.proofs.Common.{◌≡◌, ℕ, Bool, true, false, List, [], ◌�
 use Rattle.std.specs.Prelude.{◌&&◌, is_none, if◌then◌else◌}
 use Rattle.std.proofs.Math.Bool.{and_assoc}
 use Rattle.gv_atom.specs.declared.atom.Atom.{Atom}
-use Rattle.gv_atom.specs.AtomRead.{Fault, atom_fault, atom_in, divided, read_atom}
-use Rattle.gv_atom.specs.AtomText.{atom_text, is_atom}
+use Rattle.gv_atom.specs.Reading.{Fault, atom_fault, atom_in, divided, read_atom}
+use Rattle.gv_atom.specs.Grammar.{atom_text, is_atom}
 use Rattle.gv_expr.specs.Dep.{Dep, leaf, all, any, when, end, more, deps}
 use Rattle.gv_expr.specs.DepGrammar.{dep_tokens}
 use Rattle.gv_expr.specs.TokenFaults.{unless}

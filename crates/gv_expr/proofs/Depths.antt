@@ -6,14 +6,14 @@ use Rattle.std.proofs.Common.{ap, ◌∙◌}
 use Rattle.std.proofs.lemmas.List.{map-append}
 use Rattle.gv_expr.specs.DepView as dep_view
 use Rattle.gv_expr.specs.DepView.{dep_of}
-use Rattle.gv_expr.specs.ReqView as req_view
-use Rattle.gv_expr.specs.ReqView.{req_of}
+use Rattle.gv_expr.specs.RequiredView as req_view
+use Rattle.gv_expr.specs.RequiredView.{req_of}
 use Rattle.gv_expr.specs.declared.dep.DepTree.{DepTree}
 use Rattle.gv_expr.specs.declared.required.UseTree.{UseTree}
 use Rattle.gv_expr.specs.Dep as dep
 use Rattle.gv_expr.specs.Dep.{Dep, deps}
-use Rattle.gv_expr.specs.Req as req
-use Rattle.gv_expr.specs.Req.{Req, reqs}
+use Rattle.gv_expr.specs.Required as req
+use Rattle.gv_expr.specs.Required.{Req, reqs}
 
 further : (a b c d : ℕ) → b ≡ max c d → max a b ≡ max (max a c) d
 further a b c d e = omega (arith, sub-add-eq-max a b, sub-add-eq-max a c, sub-add-eq-max c d, sub-add-eq-max (max a c) d, e)

@@ -4,14 +4,14 @@ use Rattle.std.specs.List.{repeat}
 use Rattle.gv_expr.specs.declared.fault.ExprKind.{ExprKind}
 use Rattle.gv_expr.specs.declared.fault.ExprKind.TheVariants.{Depth, Stray, NotHere, BadFlag, BadAtom, Unclosed}
 use Rattle.gv_expr.specs.Dep.{deps}
-use Rattle.gv_expr.specs.Req.{reqs}
-use Rattle.gv_expr.specs.Tokens.{tokens_of}
+use Rattle.gv_expr.specs.Required.{reqs}
+use Rattle.gv_expr.specs.Token.{tokens_of}
 use Rattle.gv_expr.specs.TokenFaults.{dependency, required_use, first_fault}
 use Rattle.gv_expr.specs.DepGrammar.{dep_text}
-use Rattle.gv_expr.specs.ReqGrammar.{req_text}
+use Rattle.gv_expr.specs.RequiredGrammar.{req_text}
 use Rattle.gv_expr.specs.DepRead.{read_dep}
-use Rattle.gv_expr.specs.ReqRead.{read_required}
-use Rattle.gv_expr.specs.Mentioned.{mentioned_dep, mentioned_required}
+use Rattle.gv_expr.specs.RequiredRead.{read_required}
+use Rattle.gv_expr.specs.Mentions.{mentioned_dep, mentioned_required}
 
 abbrev dep_fault : List ℕ → Option (ℕ × ExprKind)
 dep_fault bytes = first_fault dependency (tokens_of bytes)

@@ -1,13 +1,13 @@
 -- Tokens have no fault exactly where they are those of a REQUIRED_USE within the limits, whose leaves are such.
 use Rattle.std.proofs.Common.{◌≡◌, ℕ, ◌≤◌, Bool, true, false, List, length, None, refl}
 use Rattle.gv_version.specs.Names.{is_flag}
-use Rattle.gv_expr.specs.Req.{Reqs, leaf, all, any, one, most, when, end, more}
-use Rattle.gv_expr.specs.ReqGrammar.{req_tokens, AreReqs}
+use Rattle.gv_expr.specs.Required.{Reqs, leaf, all, any, one, most, when, end, more}
+use Rattle.gv_expr.specs.RequiredGrammar.{req_tokens, AreReqs}
 use Rattle.gv_expr.specs.Leaves.{are_flags}
 use Rattle.gv_expr.specs.declared.token.Token.TheVariants as tokens
 use Rattle.gv_expr.specs.declared.fault.ExprKind.TheVariants.{BadFlag}
 use Rattle.gv_expr.specs.TokenFaults.{required_use, fault_of, first_fault}
-use Rattle.gv_expr.specs.Tokens.{signed}
+use Rattle.gv_expr.specs.Token.{signed}
 use Rattle.gv_expr.proofs.Signs.{unsigned}
 use Rattle.gv_expr.proofs.Bools.{and_left, and_right}
 use Rattle.gv_expr.proofs.Faults as faults

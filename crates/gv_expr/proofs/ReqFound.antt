@@ -10,11 +10,11 @@ use Rattle.gv_expr.specs.declared.fault.ExprKind.{ExprKind}
 use Rattle.gv_expr.specs.declared.fault.ExprKind.TheVariants.{BadFlag}
 use Rattle.gv_expr.specs.Laws.{IsReq}
 use Rattle.gv_expr.specs.Leaves.{are_flags}
-use Rattle.gv_expr.specs.Req.{Req, Reqs, leaf, all, any, one, most, when, end, more, reqs, listed, top}
-use Rattle.gv_expr.specs.ReqGrammar.{req_tokens, IsReqOf}
-use Rattle.gv_expr.specs.ReqRead.{req_groups, with_leaf, with_group, read_required}
+use Rattle.gv_expr.specs.Required.{Req, Reqs, leaf, all, any, one, most, when, end, more, reqs, listed, top}
+use Rattle.gv_expr.specs.RequiredGrammar.{req_tokens, IsReqOf}
+use Rattle.gv_expr.specs.RequiredRead.{req_groups, with_leaf, with_group, read_required}
 use Rattle.gv_expr.specs.TokenFaults.{required_use, fault_from, first_fault}
-use Rattle.gv_expr.specs.Tokens.{is_negated, without_sign, tokens_of}
+use Rattle.gv_expr.specs.Token.{is_negated, without_sign, tokens_of}
 use Rattle.gv_expr.proofs.Bools.{some_is}
 use Rattle.gv_expr.proofs.Faults.{passes, unless_none}
 use Rattle.gv_expr.proofs.Groups.{none_behind, only_open, at_end, at_close}

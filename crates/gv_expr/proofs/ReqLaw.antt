@@ -1,16 +1,16 @@
 -- Bytes are read as a REQUIRED_USE exactly where they are that REQUIRED_USE, within the limits.
 use Rattle.std.proofs.Common.{◌≡◌, ℕ, true, List, refl, sym, ap, ◌∙◌, Some, None, Result, Ok, Err}
 use Rattle.std.specs.Prelude.{IfOk, IfErr}
-use Rattle.gv_expr.specs.Req.{Req, reqs, listed, top}
-use Rattle.gv_expr.specs.ReqGrammar.{req_tokens, IsReqOf}
-use Rattle.gv_expr.specs.ReqRead.{req_groups, read_required}
+use Rattle.gv_expr.specs.Required.{Req, reqs, listed, top}
+use Rattle.gv_expr.specs.RequiredGrammar.{req_tokens, IsReqOf}
+use Rattle.gv_expr.specs.RequiredRead.{req_groups, read_required}
 use Rattle.gv_expr.specs.Leaves.{are_flags}
-use Rattle.gv_expr.specs.ExprFaults.{FaultIs, GivesReq}
+use Rattle.gv_expr.specs.Fault.{FaultIs, GivesReq}
 use Rattle.gv_expr.specs.declared.fault.ExprFault.{ExprFault}
 use Rattle.gv_expr.specs.declared.fault.ExprFault.TheVariants.{Bad, NoMemory}
 use Rattle.gv_expr.specs.declared.fault.ExprKind.{ExprKind}
 use Rattle.gv_expr.specs.TokenFaults.{required_use, first_fault}
-use Rattle.gv_expr.specs.Tokens.{tokens_of}
+use Rattle.gv_expr.specs.Token.{tokens_of}
 use Rattle.gv_expr.proofs.Bools.{none_or_some, some_is}
 use Rattle.gv_expr.proofs.ReqReadAgain.{read_again}
 use Rattle.gv_expr.proofs.ReqFaults.{no_fault, has_no_fault}

@@ -3,11 +3,11 @@ use Rattle.std.proofs.Common.{◌≡◌, ℕ, ◌+◌, Bool, true, List, [], ◌
 use Rattle.gv_version.specs.Names.{is_flag}
 use Rattle.gv_expr.specs.declared.token.Token.{Token}
 use Rattle.gv_expr.specs.declared.token.Token.TheVariants as tokens
-use Rattle.gv_expr.specs.Req.{Req, Reqs, leaf, all, any, one, most, when, end, more, reqs, listed, top}
-use Rattle.gv_expr.specs.ReqStored.{listed-reqs}
-use Rattle.gv_expr.specs.ReqGrammar.{req_tokens, AreReqs}
-use Rattle.gv_expr.specs.ReqRead.{req_groups, with_leaf, with_group}
-use Rattle.gv_expr.specs.Tokens.{signed, is_negated, without_sign}
+use Rattle.gv_expr.specs.Required.{Req, Reqs, leaf, all, any, one, most, when, end, more, reqs, listed, top}
+use Rattle.gv_expr.specs.RequiredStored.{listed-reqs}
+use Rattle.gv_expr.specs.RequiredGrammar.{req_tokens, AreReqs}
+use Rattle.gv_expr.specs.RequiredRead.{req_groups, with_leaf, with_group}
+use Rattle.gv_expr.specs.Token.{signed, is_negated, without_sign}
 use Rattle.gv_expr.proofs.Signs.{unsigned, negated_again}
 
 -- the trees and then the rest

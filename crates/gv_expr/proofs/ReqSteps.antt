@@ -3,12 +3,12 @@ use Rattle.std.proofs.Common.{◌≡◌, ℕ, Bool, true, false, List, [], ◌�
 use Rattle.std.specs.Prelude.{◌&&◌}
 use Rattle.gv_version.specs.Names.{is_flag}
 use Rattle.std.proofs.Math.Bool.{and_assoc}
-use Rattle.gv_expr.specs.Req.{Req, leaf, all, any, one, most, when, end, more, reqs}
-use Rattle.gv_expr.specs.ReqGrammar.{req_tokens}
+use Rattle.gv_expr.specs.Required.{Req, leaf, all, any, one, most, when, end, more, reqs}
+use Rattle.gv_expr.specs.RequiredGrammar.{req_tokens}
 use Rattle.gv_expr.specs.Leaves.{are_flags}
 use Rattle.gv_expr.specs.declared.token.Token.{Token}
 use Rattle.gv_expr.specs.declared.token.Token.TheVariants.{Word}
-use Rattle.gv_expr.specs.Tokens.{signed}
+use Rattle.gv_expr.specs.Token.{signed}
 
 pub req_tokens-append : (a b : List Req) → req_tokens (reqs (a ++ b)) ≡ req_tokens (reqs a) ++ req_tokens (reqs b)
 req_tokens-append [] b = refl

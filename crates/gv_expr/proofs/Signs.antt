@@ -3,7 +3,7 @@ use Rattle.std.proofs.Common.{◌≡◌, ℕ, Bool, true, false, List, [], ◌�
 use Rattle.std.specs.Prelude.{◌==◌}
 use Rattle.gv_version.specs.Bytes.{begins_with, is_letter_or_digit}
 use Rattle.gv_version.specs.Names.{is_flag}
-use Rattle.gv_expr.specs.Tokens.{signed, is_negated, without_sign}
+use Rattle.gv_expr.specs.Token.{signed, is_negated, without_sign}
 
 signed_if : (b : ℕ) (bs : List ℕ) (e : Bool) → (b == 33) ≡ e → signed (without_sign (b ∷ bs)) e ≡ b ∷ bs
 signed_if b bs true e = let n : b ≡ 33 = grind arith in rw (e, n) refl

@@ -6,12 +6,12 @@ use Rattle.gv_expr.specs.Dep.{Dep, deps}
 use Rattle.gv_expr.specs.DepGrammar.{dep_tokens, item_text}
 use Rattle.gv_expr.specs.DepView.{dep_of, view_of}
 use Rattle.gv_expr.specs.declared.dep.DepTree.{DepTree}
-use Rattle.gv_expr.specs.Req.{Req, reqs}
-use Rattle.gv_expr.specs.ReqGrammar.{req_tokens}
+use Rattle.gv_expr.specs.Required.{Req, reqs}
+use Rattle.gv_expr.specs.RequiredGrammar.{req_tokens}
 use Rattle.gv_expr.specs.declared.token.Token.{Token}
 use Rattle.gv_expr.specs.declared.token.Token.TheVariants.{Open, Close, Any, One, Most, If}
 use Rattle.gv_expr.specs.Spaced.{spaced}
-use Rattle.gv_expr.specs.Tokens.{token_text, tokens_text}
+use Rattle.gv_expr.specs.Token.{token_text, tokens_text}
 use Rattle.gv_expr.proofs.DepSteps.{dep_tokens-append}
 use Rattle.gv_expr.proofs.ReqSteps.{req_tokens-append}
 

@@ -4,8 +4,8 @@ use Rattle.gv_expr.specs.declared.token.Token.{Token}
 use Rattle.gv_expr.specs.declared.token.Token.TheVariants.{Open, Close}
 use Rattle.gv_expr.specs.declared.grammar.Head.{Head}
 use Rattle.gv_expr.specs.declared.grammar.Head.TheVariants as heads
-use Rattle.gv_expr.specs.declared.reader.Group.{Group}
-use Rattle.gv_expr.specs.ReaderState.{State, after, is_there, head_tokens, stack_tokens, state_of}
+use Rattle.gv_expr.specs.declared.open_groups.Group.{Group}
+use Rattle.gv_expr.specs.OpenGroups.{State, after, is_there, head_tokens, stack_tokens, state_of}
 
 stack_tokens-append : {E : Type 0} (written : E → List Token) (a b : List (Group E)) → stack_tokens written (a ++ b) ≡ stack_tokens written a ++ stack_tokens written b
 stack_tokens-append written [] b = refl

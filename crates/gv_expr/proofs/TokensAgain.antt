@@ -13,9 +13,9 @@ use Rattle.gv_expr.specs.declared.token.Token.{Token}
 use Rattle.gv_expr.specs.declared.token.Token.TheVariants as tokens
 use Rattle.gv_expr.specs.Dep.{Dep, deps}
 use Rattle.gv_expr.specs.DepGrammar.{dep_text, IsDepOf}
-use Rattle.gv_expr.specs.Req.{Req, reqs}
-use Rattle.gv_expr.specs.ReqGrammar.{req_text, IsReqOf}
-use Rattle.gv_expr.specs.Tokens.{is_conditional, is_negated, without_sign, token_of, token_text, tokens_of, tokens_text}
+use Rattle.gv_expr.specs.Required.{Req, reqs}
+use Rattle.gv_expr.specs.RequiredGrammar.{req_text, IsReqOf}
+use Rattle.gv_expr.specs.Token.{is_conditional, is_negated, without_sign, token_of, token_text, tokens_of, tokens_text}
 use Rattle.gv_expr.proofs.Signs.{signed_again}
 use Rattle.gv_expr.proofs.WordsAgain.{words_again}
 

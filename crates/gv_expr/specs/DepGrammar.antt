@@ -1,11 +1,11 @@
 -- The grammar of dependencies (PMS chapter 8): how trees are written, and which are good, inside of so many open groups.
 use Rattle.std.specs.Prelude.{◌≡◌, ℕ, ◌+◌, ◌<◌, ◌≤◌, true, List, [], ◌∷◌, ◌++◌, length}
 use Rattle.gv_version.specs.Names.{is_flag}
-use Rattle.gv_atom.specs.AtomText.{atom_text, is_atom}
+use Rattle.gv_atom.specs.Grammar.{atom_text, is_atom}
 use Rattle.gv_expr.specs.declared.token.Token.{Token}
 use Rattle.gv_expr.specs.declared.token.Token.TheVariants.{Open, Close, Any, If, Word}
 use Rattle.gv_expr.specs.Dep.{Dep, Deps, leaf, all, any, when, end, more, deps}
-use Rattle.gv_expr.specs.Tokens.{tokens_of, tokens_text}
+use Rattle.gv_expr.specs.Token.{tokens_of, tokens_text}
 
 abbrev pub dep_tokens : Deps → List Token
 dep_tokens end = []

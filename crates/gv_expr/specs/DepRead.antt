@@ -2,11 +2,11 @@
 -- have a fault, what `dep_groups` gives means nothing: it passes over what doesn't fit.
 use Rattle.std.specs.Prelude.{ℕ, is_none, if◌then◌else◌, List, [], ◌∷◌, Option, None, Some}
 use Rattle.gv_atom.specs.declared.atom.Atom.{Atom}
-use Rattle.gv_atom.specs.AtomRead.{read_atom}
+use Rattle.gv_atom.specs.Reading.{read_atom}
 use Rattle.gv_expr.specs.declared.token.Token.{Token}
 use Rattle.gv_expr.specs.declared.token.Token.TheVariants as tokens
 use Rattle.gv_expr.specs.Dep.{Dep, Deps, leaf, all, any, when, end, more, listed, top}
-use Rattle.gv_expr.specs.Tokens.{tokens_of}
+use Rattle.gv_expr.specs.Token.{tokens_of}
 use Rattle.gv_expr.specs.TokenFaults.{dependency, first_fault}
 
 -- a leaf before the rest of its group

@@ -2,8 +2,8 @@
 use Rattle.std.specs.Prelude.{ℕ, List}
 use Rattle.gv_expr.specs.Dep.{Dep}
 use Rattle.gv_expr.specs.DepGrammar.{IsDepOf}
-use Rattle.gv_expr.specs.Req.{Req}
-use Rattle.gv_expr.specs.ReqGrammar.{IsReqOf}
+use Rattle.gv_expr.specs.Required.{Req}
+use Rattle.gv_expr.specs.RequiredGrammar.{IsReqOf}
 
 -- the bytes are some dependency within the limits, or some REQUIRED_USE
 abbrev pub IsDep : List ℕ → Type 0

@@ -1,11 +1,11 @@
 -- Whether each leaf of an expression is an atom, or a flag: for the contracts of private functions.
 use Rattle.std.specs.Prelude.{Bool, true, ◌&&◌}
 use Rattle.gv_version.specs.Names.{is_flag}
-use Rattle.gv_atom.specs.AtomText.{is_atom}
+use Rattle.gv_atom.specs.Grammar.{is_atom}
 use Rattle.gv_expr.specs.Dep as dep
 use Rattle.gv_expr.specs.Dep.{Deps}
-use Rattle.gv_expr.specs.Req as req
-use Rattle.gv_expr.specs.Req.{Reqs}
+use Rattle.gv_expr.specs.Required as req
+use Rattle.gv_expr.specs.Required.{Reqs}
 
 abbrev pub are_atoms : Deps → Bool
 are_atoms dep.end = true

@@ -1,12 +1,12 @@
 -- The first fault of a list of tokens (the kinds and places are a format of this project).
 use Rattle.std.specs.Prelude.{ℕ, ◌+◌, ◌-◌, Bool, true, false, ◌||◌, not, is_none, nat_lt, nat_eq, if◌then◌else◌, List, [], ◌∷◌, Option, Some, None}
 use Rattle.gv_version.specs.Names.{is_flag}
-use Rattle.gv_atom.specs.AtomRead.{atom_fault}
+use Rattle.gv_atom.specs.Reading.{atom_fault}
 use Rattle.gv_expr.specs.declared.token.Token.{Token}
 use Rattle.gv_expr.specs.declared.token.Token.TheVariants.{Open, Close, Any, One, Most, If, Word}
 use Rattle.gv_expr.specs.declared.fault.ExprKind.{ExprKind}
 use Rattle.gv_expr.specs.declared.fault.ExprKind.TheVariants as kinds
-use Rattle.gv_expr.specs.Tokens.{without_sign}
+use Rattle.gv_expr.specs.Token.{without_sign}
 
 -- what a dependency and a REQUIRED_USE ask of a leaf, and of `^^` and `??`
 pub record Language : Type 0 where

@@ -4,7 +4,7 @@ ghost use Rattle.gv_expr.specs.Dep.{deps, depth_of, end, more};
 ghost use Rattle.gv_expr.specs.DepGrammar.{dep_tokens};
 ghost use Rattle.gv_expr.specs.DepView.{dep_of, view_of};
 ghost use Rattle.gv_expr.specs.Leaves.{are_atoms};
-ghost use Rattle.gv_expr.specs.ReaderState.{head_tokens, is_allowed};
+ghost use Rattle.gv_expr.specs.OpenGroups.{head_tokens, is_allowed};
 ghost use Rattle.gv_expr.specs.declared.fault.ExprKind.TheVariants.{NotHere};
 ghost use Rattle.gv_expr.specs.declared.token.Token.TheVariants.{Open, Close};
 

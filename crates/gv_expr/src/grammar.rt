@@ -1,6 +1,6 @@
 //! What the reader of tokens asks of a language of expressions: what a leaf is, and how a closed group becomes a tree.
 ghost use Rattle.std.specs.Prelude.{◌≡◌, ◌∷◌, [], ◌++◌, Bool, true, ◌&&◌, List, max, None, IfErr, OnOk, OnErr};
-ghost use Rattle.gv_expr.specs.ReaderState.{head_tokens, is_allowed, is_there, StepFails};
+ghost use Rattle.gv_expr.specs.OpenGroups.{head_tokens, is_allowed, is_there, StepFails};
 ghost use Rattle.gv_expr.specs.TokenFaults.{Language};
 ghost use Rattle.gv_expr.specs.declared.token.Token.{Token};
 ghost use Rattle.gv_expr.specs.declared.token.Token.TheVariants.{Open, Close, Word};

@@ -4,11 +4,11 @@ ghost use Rattle.gv_expr.specs.Dep.{Dep, deps};
 ghost use Rattle.gv_expr.specs.DepGrammar.{dep_text, IsDepOf};
 ghost use Rattle.gv_expr.specs.DepRead.{read_dep};
 ghost use Rattle.gv_expr.specs.Laws.{IsDep, IsReq};
-ghost use Rattle.gv_expr.specs.Req.{Req, reqs};
-ghost use Rattle.gv_expr.specs.ReqGrammar.{req_text, IsReqOf};
-ghost use Rattle.gv_expr.specs.ReqRead.{read_required};
+ghost use Rattle.gv_expr.specs.Required.{Req, reqs};
+ghost use Rattle.gv_expr.specs.RequiredGrammar.{req_text, IsReqOf};
+ghost use Rattle.gv_expr.specs.RequiredRead.{read_required};
 ghost use Rattle.gv_expr.specs.TokenFaults.{dependency, first_fault, required_use};
-ghost use Rattle.gv_expr.specs.Tokens.{tokens_of};
+ghost use Rattle.gv_expr.specs.Token.{tokens_of};
 
 use gv_atom::atom_law;
 

@@ -12,8 +12,8 @@ mod fault;
 mod grammar;
 mod laws;
 mod mentions;
+mod open_groups;
 mod printing;
-mod reader;
 mod reading;
 mod required;
 #[cfg(test)]

@@ -5,11 +5,11 @@ ghost use Rattle.std.specs.Prelude.{◌≡◌, ◌<◌, ◌++◌, [], ◌∷◌,
 ghost use Rattle.gv_expr.specs.Dep.{deps};
 ghost use Rattle.gv_expr.specs.DepGrammar.{dep_text, dep_tokens, item_text, IsDepOf};
 ghost use Rattle.gv_expr.specs.DepView.{dep_of};
-ghost use Rattle.gv_expr.specs.Req.{reqs};
-ghost use Rattle.gv_expr.specs.ReqGrammar.{req_text, req_tokens, IsReqOf};
-ghost use Rattle.gv_expr.specs.ReqView.{req_of};
+ghost use Rattle.gv_expr.specs.Required.{reqs};
+ghost use Rattle.gv_expr.specs.RequiredGrammar.{req_text, req_tokens, IsReqOf};
+ghost use Rattle.gv_expr.specs.RequiredView.{req_of};
 ghost use Rattle.gv_expr.specs.Spaced.{spaced};
-ghost use Rattle.gv_expr.specs.Tokens.{signed};
+ghost use Rattle.gv_expr.specs.Token.{signed};
 ghost use Rattle.gv_expr.specs.declared.token.Token.TheVariants.{Open, Close, If};
 
 use crate::{DepExpr, DepTree, UseExpr, UseTree};

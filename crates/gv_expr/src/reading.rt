@@ -4,15 +4,16 @@ ghost use Rattle.gv_base.specs.Pieces.{left};
 ghost use Rattle.gv_expr.specs.Dep.{Dep};
 ghost use Rattle.gv_expr.specs.DepGrammar.{IsDepOf};
 ghost use Rattle.gv_expr.specs.DepRead.{read_dep};
-ghost use Rattle.gv_expr.specs.ExprFaults.{FaultIs, GivesDep, GivesReq};
-ghost use Rattle.gv_expr.specs.Req.{Req};
-ghost use Rattle.gv_expr.specs.ReqGrammar.{IsReqOf};
-ghost use Rattle.gv_expr.specs.ReqRead.{read_required};
+ghost use Rattle.gv_expr.specs.Fault.{FaultIs, GivesDep, GivesReq};
+ghost use Rattle.gv_expr.specs.Required.{Req};
+ghost use Rattle.gv_expr.specs.RequiredGrammar.{IsReqOf};
+ghost use Rattle.gv_expr.specs.RequiredRead.{read_required};
 ghost use Rattle.gv_expr.specs.TokenFaults.{dependency, first_fault, required_use};
-ghost use Rattle.gv_expr.specs.Tokens.{token_of, tokens_in, tokens_of};
+ghost use Rattle.gv_expr.specs.Token.{token_of, tokens_of};
+ghost use Rattle.gv_expr.specs.Spaced.{tokens_in};
 
 use crate::grammar::{Grammar, StepFault};
-use crate::reader::Reader;
+use crate::open_groups::Reader;
 use crate::token::token_of;
 use crate::{DepExpr, ExprFault, ExprKind, UseExpr};
 use gv_atom::atom_law;
@@ -21,6 +22,33 @@ use std::alloc::Global;
 
 /// The most tokens of an expression.
 const MOST_TOKENS: u32 = 100_000;
+
+/// The dependency that the bytes are (PMS chapter 8): atoms, `( )`, `|| ( )`, `flag? ( )` and `!flag? ( )`, with at most
+/// 64 open groups and 100,000 tokens. Where they are none, the first token that is at fault is told.
+pub fn read_dep(alloc: Global, bytes: &[u8]) -> Result<DepExpr, ExprFault>
+    // What is read is the dependency of these bytes.
+    ensures dep { IfOk result (λ e. IsDepOf bytes.now e) }
+    ensures read { IfOk result (λ e. read_dep bytes.now ≡ Some e) }
+    // Each dependency within the limits is read from its bytes.
+    ensures again { (ts : List Dep) → IsDepOf bytes.now ts → GivesDep result ts }
+    ensures bad { IfErr result (FaultIs (first_fault dependency (tokens_of bytes.now))) }
+{
+    atom_law();
+    read_tokens::<DepExpr>(alloc, bytes)
+}
+
+/// The REQUIRED_USE that the bytes are (PMS chapter 7): flags, `!flag`, `( )`, `|| ( )`, `^^ ( )`, `?? ( )`, `flag? ( )`
+/// and `!flag? ( )`, with the same limits. Where they are none, the first token that is at fault is told.
+pub fn read_required(alloc: Global, bytes: &[u8]) -> Result<UseExpr, ExprFault>
+    // What is read is the REQUIRED_USE of these bytes.
+    ensures required { IfOk result (λ e. IsReqOf bytes.now e) }
+    ensures read { IfOk result (λ e. read_required bytes.now ≡ Some e) }
+    // Each REQUIRED_USE within the limits is read from its bytes.
+    ensures again { (ts : List Req) → IsReqOf bytes.now ts → GivesReq result ts }
+    ensures bad { IfErr result (FaultIs (first_fault required_use (tokens_of bytes.now))) }
+{
+    read_tokens::<UseExpr>(alloc, bytes)
+}
 
 // Takes the first piece that isn't empty off, where one is left.
 fn next_word<'a>(rest: &mut Option<&'a [u8]>) -> Option<&'a [u8]>
@@ -72,31 +100,4 @@ fn read_tokens<E: Grammar>(alloc: Global, bytes: &[u8]) -> Result<E, ExprFault>
             kind: ExprKind::Unclosed,
         }),
     }
-}
-
-/// The dependency that the bytes are (PMS chapter 8): atoms, `( )`, `|| ( )`, `flag? ( )` and `!flag? ( )`, with at most
-/// 64 open groups and 100,000 tokens. Where they are none, the first token that is at fault is told.
-pub fn read_dep(alloc: Global, bytes: &[u8]) -> Result<DepExpr, ExprFault>
-    // What is read is the dependency of these bytes.
-    ensures dep { IfOk result (λ e. IsDepOf bytes.now e) }
-    ensures read { IfOk result (λ e. read_dep bytes.now ≡ Some e) }
-    // Each dependency within the limits is read from its bytes.
-    ensures again { (ts : List Dep) → IsDepOf bytes.now ts → GivesDep result ts }
-    ensures bad { IfErr result (FaultIs (first_fault dependency (tokens_of bytes.now))) }
-{
-    atom_law();
-    read_tokens::<DepExpr>(alloc, bytes)
-}
-
-/// The REQUIRED_USE that the bytes are (PMS chapter 7): flags, `!flag`, `( )`, `|| ( )`, `^^ ( )`, `?? ( )`, `flag? ( )`
-/// and `!flag? ( )`, with the same limits. Where they are none, the first token that is at fault is told.
-pub fn read_required(alloc: Global, bytes: &[u8]) -> Result<UseExpr, ExprFault>
-    // What is read is the REQUIRED_USE of these bytes.
-    ensures required { IfOk result (λ e. IsReqOf bytes.now e) }
-    ensures read { IfOk result (λ e. read_required bytes.now ≡ Some e) }
-    // Each REQUIRED_USE within the limits is read from its bytes.
-    ensures again { (ts : List Req) → IsReqOf bytes.now ts → GivesReq result ts }
-    ensures bad { IfErr result (FaultIs (first_fault required_use (tokens_of bytes.now))) }
-{
-    read_tokens::<UseExpr>(alloc, bytes)
 }

@@ -1,10 +1,10 @@
 //! REQUIRED_USE (PMS chapter 7) as trees, and what the reader of tokens needs to know of it.
 ghost use Rattle.std.specs.Prelude.{◌≡◌, ◌≤◌, ◌∷◌, [], ◌++◌, IfOk, OnOk, OnErr};
 ghost use Rattle.gv_expr.specs.Leaves.{are_flags};
-ghost use Rattle.gv_expr.specs.ReaderState.{head_tokens};
-ghost use Rattle.gv_expr.specs.Req.{reqs, depth_of, end, more};
-ghost use Rattle.gv_expr.specs.ReqGrammar.{req_tokens};
-ghost use Rattle.gv_expr.specs.ReqView.{req_of, view_of};
+ghost use Rattle.gv_expr.specs.OpenGroups.{head_tokens};
+ghost use Rattle.gv_expr.specs.Required.{reqs, depth_of, end, more};
+ghost use Rattle.gv_expr.specs.RequiredGrammar.{req_tokens};
+ghost use Rattle.gv_expr.specs.RequiredView.{req_of, view_of};
 ghost use Rattle.gv_expr.specs.declared.token.Token.TheVariants.{Open, Close};
 
 use crate::ExprKind;
@@ -59,14 +59,14 @@ pub struct UseExpr {
 
 impl Model for UseExpr {
     ghost use Rattle.std.specs.Prelude.{◌≡◌, ◌≤◌, List};
-    ghost use Rattle.gv_expr.specs.Req.{Req, reqs, depth_of};
-    ghost use Rattle.gv_expr.specs.ReqStored.{reqs_code, size_of};
+    ghost use Rattle.gv_expr.specs.Required.{Req, reqs, depth_of};
+    ghost use Rattle.gv_expr.specs.RequiredStored.{reqs_code, size_of};
 
     ghost Value = { List Req };
 
     ghost coded = { reqs_code };
 
-    ghost use Rattle.gv_expr.specs.ReqView.{view_of};
+    ghost use Rattle.gv_expr.specs.RequiredView.{view_of};
 
     ghost view = { λ e. view_of e.items.items };
 
@@ -74,7 +74,7 @@ impl Model for UseExpr {
 
     ghost size = { size_of };
 
-    ghost use Rattle.gv_expr.specs.ReqFalls.{child_falls};
+    ghost use Rattle.gv_expr.specs.RequiredFalls.{child_falls};
 
     ghost size_decreases = { λ a h. child_falls a };
 }

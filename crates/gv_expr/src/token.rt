@@ -1,6 +1,6 @@
 //! Tokens: the words of an expression, sorted. O(the word's bytes).
 ghost use Rattle.std.specs.Prelude.{◌≡◌, IfOk};
-ghost use Rattle.gv_expr.specs.Tokens.{is_negated, without_sign, token_of};
+ghost use Rattle.gv_expr.specs.Token.{is_negated, without_sign, token_of};
 
 use gv_base::{NoMemory, Text};
 use std::alloc::Global;
@@ -35,17 +35,6 @@ pub fn split_sign(text: &[u8]) -> (&[u8], bool)
     }
 }
 
-// The token of a conditional whose `?` was taken off.
-fn conditional(alloc: Global, text: &[u8]) -> Result<Token, NoMemory>
-    ensures { IfOk result (λ token. token ≡ Token.If (without_sign text.now) (is_negated text.now)) }
-{
-    let (flag, negated) = split_sign(text);
-    Ok(Token::If {
-        flag: Text::of(alloc, flag)?,
-        negated,
-    })
-}
-
 /// The token that a word is.
 pub fn token_of(alloc: Global, word: &[u8]) -> Result<Token, NoMemory>
     ensures { IfOk result (λ token. token ≡ token_of word.now) }
@@ -70,5 +59,16 @@ pub fn token_of(alloc: Global, word: &[u8]) -> Result<Token, NoMemory>
     }
     Ok(Token::Word {
         text: Text::of(alloc, word)?,
+    })
+}
+
+// The token of a conditional whose `?` was taken off.
+fn conditional(alloc: Global, text: &[u8]) -> Result<Token, NoMemory>
+    ensures { IfOk result (λ token. token ≡ Token.If (without_sign text.now) (is_negated text.now)) }
+{
+    let (flag, negated) = split_sign(text);
+    Ok(Token::If {
+        flag: Text::of(alloc, flag)?,
+        negated,
     })
 }

@@ -3,7 +3,7 @@ use Rattle.std.specs.Prelude.{◌≡◌, ℕ, Bool, true, false, List, [], ◌�
 use Rattle.std.specs.Option.{option_map_or}
 use Rattle.gv_base.specs.Order.{has_text}
 use Rattle.gv_base.specs.Words.{words_of}
-use Rattle.gv_atom.specs.AtomRead.{read_atom}
+use Rattle.gv_atom.specs.Reading.{read_atom}
 use Rattle.gv_facts.specs.declared.kinds.Eapi.TheVariants.{Five, Six, Seven, Eight}
 use Rattle.gv_facts.specs.declared.kinds.Class.{Class}
 use Rattle.gv_facts.specs.declared.kinds.Class.TheVariants.{Required, Depend, Rdepend, Pdepend, Bdepend, Idepend}

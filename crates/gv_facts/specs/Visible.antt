@@ -4,7 +4,7 @@ use Rattle.std.specs.List.{list_any}
 use Rattle.std.specs.Str.{byte}
 use Rattle.gv_base.specs.Order.{has_text}
 use Rattle.gv_atom.specs.declared.atom.Atom.{Atom}
-use Rattle.gv_atom.specs.AtomMatch.{matches}
+use Rattle.gv_atom.specs.Matching.{matches}
 use Rattle.gv_facts.specs.declared.kinds.Level.{Level}
 use Rattle.gv_facts.specs.declared.kinds.Level.TheVariants.{Stable, Testing}
 use Rattle.gv_facts.specs.declared.pkg.Pkg.{Pkg}

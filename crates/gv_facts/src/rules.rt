@@ -32,15 +32,6 @@ pub struct Rule {
     pub on: bool,
 }
 
-fn copy_atom(alloc: Global, atom: &Option<Atom>) -> Result<Option<Atom>, NoMemory>
-    ensures { IfOk result (λ copy. copy ≡ atom.now) }
-{
-    match atom {
-        Some(atom) => Ok(Some(atom.copy(alloc)?)),
-        None => Ok(None),
-    }
-}
-
 impl Rule {
     /// An equal rule.
     pub fn copy(&self, alloc: Global) -> Result<Rule, NoMemory>
@@ -123,5 +114,14 @@ impl Rules {
             rules.add(item.copy(alloc)?)?;
         }
         Ok(rules)
+    }
+}
+
+fn copy_atom(alloc: Global, atom: &Option<Atom>) -> Result<Option<Atom>, NoMemory>
+    ensures { IfOk result (λ copy. copy ≡ atom.now) }
+{
+    match atom {
+        Some(atom) => Ok(Some(atom.copy(alloc)?)),
+        None => Ok(None),
     }
 }

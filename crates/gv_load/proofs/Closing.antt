@@ -8,7 +8,7 @@ use Rattle.gv_profile.specs.declared.files.DirFiles.{DirFiles}
 use Rattle.gv_load.specs.declared.reaching.Ahead.{Ahead}
 use Rattle.gv_load.specs.Ahead.{ahead_of}
 use Rattle.gv_load.specs.Closed.{parent_paths, IsClosedBut, IsClosed, paths_left}
-use Rattle.gv_load.specs.Reach.{Dirs, paths_of}
+use Rattle.gv_load.specs.Reaching.{Dirs, paths_of}
 use Rattle.gv_load.proofs.Reaches.{has_last, same_bytes}
 use Rattle.gv_load.proofs.Drops.{dropped, nothing_dropped}
 

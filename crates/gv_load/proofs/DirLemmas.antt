@@ -6,10 +6,10 @@ use Rattle.gv_base.specs.declared.tree.Found.{Found}
 use Rattle.gv_base.specs.declared.tree.Found.TheVariants.{File, Dir, Absent}
 use Rattle.gv_profile.specs.declared.files.DirFiles.{DirFiles}
 use Rattle.gv_load.specs.declared.faults.LoadFault.{LoadFault}
-use Rattle.gv_load.specs.Causes.{Cause, Went}
+use Rattle.gv_load.specs.Causes.{Cause, Went, IsTold, look_in}
 use Rattle.gv_load.specs.Directories.{dir_files, dir_as, dir_at, steps_as, inside_steps, dir_steps}
-use Rattle.gv_load.specs.Known.{Seen}
-use Rattle.gv_load.specs.Look.{Look, IsTold, look_in}
+use Rattle.gv_load.specs.Reader.{Seen}
+use Rattle.gv_load.specs.Look.{Look}
 use Rattle.gv_load.specs.Reading.{Step, read, list, after_list, passed}
 use Rattle.gv_load.proofs.Passing.{same_cause, front_cause, back_cause, both_went}
 

@@ -8,8 +8,8 @@ use Rattle.std.proofs.Math.Seq.{take-suc}
 use Rattle.std.proofs.lemmas.Map.Text.{is_eq-slice_cmp}
 use Rattle.std.proofs.lemmas.Slice.Eq.{bytes_eq-Decides}
 use Rattle.gv_base.specs.Order.{byte_cmp, has_text}
-use Rattle.gv_load.specs.DigestMap.{digests_with, KeepsDigests}
-use Rattle.gv_load.specs.Digests.{DigestMap}
+use Rattle.gv_load.specs.DigestWords.{digests_with, KeepsDigests}
+use Rattle.gv_load.specs.EclassDigests.{DigestMap}
 use Rattle.gv_load.specs.Entries.{eclass_digest}
 use Rattle.gv_load.specs.Look.{Look}
 use Rattle.gv_load.proofs.Reaches.{has_last}

@@ -8,10 +8,10 @@ use Rattle.md5.specs.Md5.{md5, rounds, block_words, compress, hash_after, digest
 use Rattle.gv_base.specs.Listing.{below, next_part}
 use Rattle.gv_base.specs.Order.{byte_cmp, in_order}
 use Rattle.gv_base.specs.Outside.{found_as}
-use Rattle.gv_profile.specs.Masks.{file_atom}
+use Rattle.gv_profile.specs.MaskLines.{file_atom}
 use Rattle.gv_profile.specs.Names as names
 use Rattle.gv_profile.specs.Names.{profiles, eapi_path, parent_path, defaults_path, detail_of}
-use Rattle.gv_profile.specs.Walk.{walk_below}
+use Rattle.gv_profile.specs.Walking.{walk_below}
 use Rattle.gv_profile.specs.declared.notes.PlaceNote.{PlaceNote}
 use Rattle.gv_report.specs.declared.keyword.Keyword.TheVariants as keywords
 use Rattle.gv_report.specs.declared.report.Report.{Report}
@@ -25,7 +25,7 @@ use Rattle.gv_load.specs.Categories.{pf_subject}
 use Rattle.gv_load.specs.Notes.{category_detail, pf_report, place_report, repository_notes, stale_detail}
 use Rattle.gv_load.specs.Order.{load_steps}
 use Rattle.gv_load.specs.Paths.{desc_path, categories_path, mask_path, cache_dir, ebuild_end, eclass_path, stack_place}
-use Rattle.gv_load.specs.Reach.{reach_below}
+use Rattle.gv_load.specs.Reaching.{reach_below}
 use Rattle.gv_load.specs.Reading.{read, list, need, bound, once}
 use Rattle.gv_load.specs.Stacks as stacks
 use Rattle.gv_load.specs.Repository.{repository}

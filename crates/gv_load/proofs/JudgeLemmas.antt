@@ -10,14 +10,14 @@ use Rattle.std.proofs.lemmas.List.Folds.{list_any-append}
 use Rattle.gv_load.specs.declared.entries.PfRead.{PfRead}
 use Rattle.gv_entry.specs.declared.entry.Eclass.{Eclass}
 use Rattle.gv_entry.specs.declared.entry.Entry.{Entry}
-use Rattle.gv_load.specs.declared.judging.Kept.{Kept}
-use Rattle.gv_load.specs.declared.judging.PfKept.{PfKept}
-use Rattle.gv_load.specs.declared.judging.Why.{Why}
-use Rattle.gv_load.specs.declared.judging.Why.TheVariants.{Ebuild, OneEclass}
-use Rattle.gv_load.specs.DigestMap.{AllNamed, AreNamed, KeepsDigests}
-use Rattle.gv_load.specs.Digests.{DigestMap}
+use Rattle.gv_load.specs.declared.freshness.Kept.{Kept}
+use Rattle.gv_load.specs.declared.freshness.PfKept.{PfKept}
+use Rattle.gv_load.specs.declared.freshness.Why.{Why}
+use Rattle.gv_load.specs.declared.freshness.Why.TheVariants.{Ebuild, OneEclass}
+use Rattle.gv_load.specs.DigestWords.{AllNamed, AreNamed, KeepsDigests}
+use Rattle.gv_load.specs.EclassDigests.{DigestMap}
 use Rattle.gv_load.specs.Entries.{eclass_name, named_by, names_in, names_with, eclass_digest}
-use Rattle.gv_load.specs.Judging.{is_that, first_other, stale_eclasses, kept_with, kept_as, pf_kept}
+use Rattle.gv_load.specs.Freshness.{is_that, first_other, stale_eclasses, kept_with, kept_as, pf_kept}
 use Rattle.gv_load.specs.Look.{Look}
 
 pub or_right : (a b : Bool) → b ≡ true → (a || b) ≡ true

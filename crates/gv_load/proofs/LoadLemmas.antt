@@ -4,18 +4,18 @@ use Rattle.std.specs.Prelude.{Option, Some, None, Result, Ok, Err, IfSome}
 use Rattle.gv_base.specs.FileMap.{FileMap}
 use Rattle.gv_load.specs.declared.faults.LoadFault.{LoadFault}
 use Rattle.gv_load.specs.declared.faults.LoadFault.TheVariants.{Tree, NotARepository, Limit, NoMemory}
-use Rattle.gv_load.specs.declared.judging.PfKept.{PfKept}
+use Rattle.gv_load.specs.declared.freshness.PfKept.{PfKept}
 use Rattle.gv_load.specs.declared.lists.Lists.{Lists}
 use Rattle.gv_load.specs.declared.loading.Repo.{Repo}
-use Rattle.gv_load.specs.declared.profiling.Profiled.{Profiled}
-use Rattle.gv_load.specs.Causes.{Cause, Went}
-use Rattle.gv_load.specs.Judging.{all_kept}
-use Rattle.gv_load.specs.Known.{Seen, nothing}
+use Rattle.gv_load.specs.declared.line_profiles.Profiled.{Profiled}
+use Rattle.gv_load.specs.Causes.{Cause, Went, IsTold, look_in}
+use Rattle.gv_load.specs.Freshness.{all_kept}
+use Rattle.gv_load.specs.Reader.{Seen, nothing}
 use Rattle.gv_load.specs.Loading.{LoadCause, loading}
-use Rattle.gv_load.specs.Look.{Look, IsTold, look_in, look_of}
+use Rattle.gv_load.specs.Look.{Look, look_of}
 use Rattle.gv_load.specs.Notes.{repository_notes}
 use Rattle.gv_load.specs.Order.{categories, desc_lines, list_steps, load_steps, packages_steps, profiles_steps}
-use Rattle.gv_load.specs.Read.{lists_of, profiled_of, repo_with}
+use Rattle.gv_load.specs.PartsRead.{lists_of, profiled_of, repo_with}
 use Rattle.gv_load.specs.Reading.{Step, passed}
 use Rattle.gv_load.specs.Repository.{repository}
 use Rattle.gv_load.proofs.DirLemmas.{same_went, same_refused}

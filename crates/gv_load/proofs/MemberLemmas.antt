@@ -11,7 +11,7 @@ use Rattle.std.specs.declared.cmp.Ordering.{Ordering}
 use Rattle.std.specs.declared.cmp.Ordering.TheVariants.{Less, Equal, Greater}
 use Rattle.gv_facts.specs.declared.pkg.Pkg.{Pkg}
 use Rattle.gv_load.specs.MemberOrder.{member_total}
-use Rattle.gv_load.specs.declared.judging.PfKept.{PfKept}
+use Rattle.gv_load.specs.declared.freshness.PfKept.{PfKept}
 use Rattle.gv_load.specs.declared.members.Member.{Member}
 use Rattle.gv_load.specs.Members.{with_all, with_member}
 use Rattle.gv_load.specs.Repository.{AreInPackageOrder, in_package_order, member_cmp, member_in, members_in, pkg_cmp, pkg_of}

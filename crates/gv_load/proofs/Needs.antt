@@ -6,9 +6,9 @@ use Rattle.gv_base.specs.declared.tree.Found.{Found}
 use Rattle.gv_base.specs.declared.tree.Found.TheVariants.{File}
 use Rattle.gv_load.specs.declared.faults.LoadFault.{LoadFault}
 use Rattle.gv_load.specs.declared.faults.LoadFault.TheVariants.{NotARepository}
-use Rattle.gv_load.specs.Causes.{Cause, IsOrNoMemory, Went}
-use Rattle.gv_load.specs.Known.{Seen}
-use Rattle.gv_load.specs.Look.{IsTold, look_in}
+use Rattle.gv_load.specs.Faults.{IsOrNoMemory}
+use Rattle.gv_load.specs.Causes.{Cause, Went, IsTold, look_in}
+use Rattle.gv_load.specs.Reader.{Seen}
 use Rattle.gv_load.specs.Reading.{Out, read, need, after_read, if_file, and_then, passed}
 use Rattle.gv_load.proofs.Passing.{same_cause}
 

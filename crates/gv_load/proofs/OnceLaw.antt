@@ -15,16 +15,15 @@ use Rattle.gv_profile.specs.Paths.{within}
 use Rattle.gv_profile.specs.declared.desc.DescLine.{DescLine}
 use Rattle.gv_version.specs.Laws.{IsDivided}
 use Rattle.gv_version.specs.Names.{is_category}
-use Rattle.gv_load.specs.Ahead.{steps_of}
+use Rattle.gv_load.specs.Directories.{steps_of, text_at, dir_at, dir_steps, file_steps, flag_steps, folder_steps, folder_names, inside_steps, name_steps, package_steps, pair_steps, steps_as}
 use Rattle.gv_load.specs.Categories.{categories_in, category_in, ebuilds_in, folders, is_pf, listed, name_of, pfs_of}
-use Rattle.gv_load.specs.Directories.{text_at, dir_at, dir_steps, file_steps, flag_steps, folder_steps, folder_names, inside_steps, name_steps, package_steps, pair_steps, steps_as}
 use Rattle.gv_load.specs.Entries.{all_reads, eclass_names, names_in}
 use Rattle.gv_load.specs.Layout.{layout}
 use Rattle.gv_load.specs.Look.{Look}
 use Rattle.gv_load.specs.Once.{AreDistinct, OnceLaw, once_path, once_paths}
 use Rattle.gv_load.specs.Order.{categories, categories_steps, category_steps, desc_lines, eclass_steps, folder_lists, list_steps, listing_steps, load_steps, packages_steps, pf_steps, pfs_steps, profiles_steps, reached, stack_steps}
 use Rattle.gv_load.specs.Paths.{categories_path, ebuild_path, eclass_path, entry_path, mask_path}
-use Rattle.gv_load.specs.Reach.{Dirs}
+use Rattle.gv_load.specs.Reaching.{Dirs}
 use Rattle.gv_load.specs.Reading.{Step, once}
 use Rattle.gv_load.proofs.Apart.{all_groups, are_distinct, filter_distinct, groups_apart, map_distinct, two_apart}
 use Rattle.gv_load.proofs.JudgeLemmas.{itself, or_right}

@@ -5,9 +5,8 @@ use Rattle.std.specs.FinMap.{get}
 use Rattle.gv_base.specs.ByteMap.{ByteMap}
 use Rattle.gv_base.specs.FileMap.{FileMap}
 use Rattle.gv_base.specs.declared.tree.Found.{Found}
-use Rattle.gv_load.specs.Causes.{Knows, Went}
-use Rattle.gv_load.specs.Known.{Seen}
-use Rattle.gv_load.specs.Look.{IsTold, look_in}
+use Rattle.gv_load.specs.Causes.{Knows, Went, IsTold, look_in}
+use Rattle.gv_load.specs.Reader.{Seen}
 use Rattle.gv_load.specs.Reading.{Out, once, after_new, with_found}
 
 pub found_before : (told : Option FileMap) (seen : Seen) (path : List ℕ) (found : Found) → Knows told seen → Some found ≡ get seen.known path → IsTold told → found ≡ (look_in told).found path

@@ -4,9 +4,9 @@ use Rattle.std.specs.Prelude.{Option, Ok, Err}
 use Rattle.gv_base.specs.FileMap.{FileMap}
 use Rattle.gv_load.specs.declared.faults.LoadFault.{LoadFault}
 use Rattle.gv_load.specs.declared.faults.LoadFault.TheVariants.{Tree, NotARepository, Limit, NoMemory}
-use Rattle.gv_load.specs.Causes.{Cause, Went}
-use Rattle.gv_load.specs.Known.{Seen}
-use Rattle.gv_load.specs.Look.{Look, IsTold, look_in}
+use Rattle.gv_load.specs.Causes.{Cause, Went, IsTold, look_in}
+use Rattle.gv_load.specs.Reader.{Seen}
+use Rattle.gv_load.specs.Look.{Look}
 use Rattle.gv_load.specs.Reading.{Out, Step, after, passed, and_then}
 
 pub passed-append : (look : Look) (old : Seen) (xs ys : List Step) → passed look old (xs ++ ys) ≡ and_then (passed look old xs) (λ next. passed look next ys)

@@ -10,7 +10,8 @@ use Rattle.gv_load.specs.declared.entries.PfRead.{PfRead}
 use Rattle.gv_load.specs.Categories.{listed, name_of, pf_subject, pfs_of}
 use Rattle.gv_load.specs.Directories.{bytes_at}
 use Rattle.gv_load.specs.Entries.{digest_at, pf_read, reads_of}
-use Rattle.gv_load.specs.Look.{Look, IsTold, look_in}
+use Rattle.gv_load.specs.Look.{Look}
+use Rattle.gv_load.specs.Causes.{IsTold, look_in}
 use Rattle.gv_load.specs.Order.{pf_steps, pfs_steps}
 use Rattle.gv_load.specs.Paths.{entry_path, ebuild_path}
 use Rattle.gv_load.specs.Reading.{Step, once}

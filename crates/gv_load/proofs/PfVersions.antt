@@ -5,7 +5,7 @@ use Rattle.std.specs.Option.{is_some}
 use Rattle.std.proofs.Math.ListN.{drop_of_length-le}
 use Rattle.gv_version.specs.Laws.{IsDivided}
 use Rattle.gv_version.specs.Names.{split_pf}
-use Rattle.gv_version.specs.VersionForm.{is_version}
+use Rattle.gv_version.specs.Form.{is_version}
 use Rattle.gv_load.specs.Categories.{is_pf, version_of}
 
 pub version_is : ((bytes : List ℕ) → IsDivided bytes) → (pf : List ℕ) → is_pf pf ≡ true → is_version (version_of pf) ≡ true

@@ -12,21 +12,22 @@ use Rattle.gv_profile.specs.declared.files.NamedFile.{NamedFile}
 use Rattle.gv_profile.specs.declared.notes.PlaceNote.{PlaceNote}
 use Rattle.gv_load.specs.declared.faults.LoadFault.{LoadFault}
 use Rattle.gv_load.specs.declared.faults.LoadFault.TheVariants.{Tree, NotARepository, Limit, NoMemory}
-use Rattle.gv_load.specs.declared.profiling.Profiled.{Profiled}
+use Rattle.gv_load.specs.declared.line_profiles.Profiled.{Profiled}
 use Rattle.gv_load.specs.declared.reaching.Reached.{Reached}
 use Rattle.gv_load.specs.declared.stacks.Folds.{Folds}
-use Rattle.gv_load.specs.Ahead.{KeepsDirs, steps_of}
-use Rattle.gv_load.specs.Causes.{Cause, Knows, Went}
+use Rattle.gv_load.specs.Ahead.{KeepsDirs}
+use Rattle.gv_load.specs.Directories.{steps_of, dir_at}
+use Rattle.gv_load.specs.Causes.{Cause, Knows, Went, IsTold, look_in}
 use Rattle.gv_load.specs.Closed.{HaveSameStacks}
-use Rattle.gv_load.specs.Directories.{dir_at}
-use Rattle.gv_load.specs.Known.{Seen}
-use Rattle.gv_load.specs.Look.{Look, IsTold, look_in}
+use Rattle.gv_load.specs.Reader.{Seen}
+use Rattle.gv_load.specs.Look.{Look}
 use Rattle.gv_load.specs.Notes.{notes_at, notes_in}
 use Rattle.gv_load.specs.Order.{profiles_steps, reached, stack_steps}
-use Rattle.gv_load.specs.Reach.{Dirs}
-use Rattle.gv_load.specs.Read.{profiled_of}
+use Rattle.gv_load.specs.Reaching.{Dirs}
+use Rattle.gv_load.specs.PartsRead.{profiled_of}
 use Rattle.gv_load.specs.Reading.{Out, passed}
-use Rattle.gv_load.specs.Stacks.{error_at, first_limit, profile_at, LimitIs}
+use Rattle.gv_load.specs.Stacks.{error_at, profile_at}
+use Rattle.gv_load.specs.StackLimits.{first_limit, LimitIs}
 use Rattle.gv_load.proofs.JudgeLemmas.{itself, or_right}
 use Rattle.gv_load.proofs.Passing.{passed-append}
 use Rattle.gv_load.proofs.StackSteps.{stacks_pass, stacks_refused}

@@ -11,18 +11,18 @@ use Rattle.std.proofs.lemmas.Map.Text.{is_eq-slice_cmp}
 use Rattle.std.proofs.lemmas.Slice.Eq.{bytes_eq-Decides}
 use Rattle.gv_base.specs.FileMap.{FileMap}
 use Rattle.gv_base.specs.Order.{byte_cmp, has_text}
-use Rattle.gv_profile.specs.DirMap.{DirMap}
+use Rattle.gv_profile.specs.Dirs.{DirMap}
 use Rattle.gv_profile.specs.declared.files.DirFiles.{DirFiles}
 use Rattle.gv_load.specs.declared.faults.LoadFault.{LoadFault}
 use Rattle.gv_load.specs.declared.reaching.Ahead.{Ahead}
 use Rattle.gv_load.specs.declared.reaching.Reached.{Reached}
-use Rattle.gv_load.specs.Ahead.{reached_after, ahead_of, dirs_with, KeepsDirs, steps_of}
-use Rattle.gv_load.specs.Causes.{Cause, Went}
-use Rattle.gv_load.specs.Directories.{dir_at, dir_steps}
-use Rattle.gv_load.specs.Known.{Seen}
-use Rattle.gv_load.specs.Look.{Look, IsTold, look_in}
-use Rattle.gv_load.specs.Reach.{Dirs, reach, reach_below, most_depth, paths_of, with_parents, from_line, reached_by}
-use Rattle.gv_profile.specs.Walk.{line_dir}
+use Rattle.gv_load.specs.Ahead.{reached_after, ahead_of, dirs_with, KeepsDirs}
+use Rattle.gv_load.specs.Directories.{steps_of, dir_at, dir_steps}
+use Rattle.gv_load.specs.Causes.{Cause, Went, IsTold, look_in}
+use Rattle.gv_load.specs.Reader.{Seen}
+use Rattle.gv_load.specs.Look.{Look}
+use Rattle.gv_load.specs.Reaching.{Dirs, reach, reach_below, most_depth, paths_of, with_parents, from_line, reached_by}
+use Rattle.gv_profile.specs.Walking.{line_dir}
 use Rattle.gv_profile.specs.declared.desc.DescLine.{DescLine}
 use Rattle.gv_load.specs.Reading.{Out, passed, and_then}
 use Rattle.gv_load.proofs.Passing.{passed-append, same_cause}

@@ -18,9 +18,9 @@ use Rattle.gv_base.specs.Order.{byte_cmp, in_order}
 use Rattle.gv_base.specs.declared.tree.Found.{Found}
 use Rattle.gv_base.specs.declared.tree.Found.TheVariants.{File}
 use Rattle.gv_load.specs.declared.faults.LoadFault.TheVariants.{Limit}
-use Rattle.gv_load.specs.Causes.{Agrees, Knows}
-use Rattle.gv_load.specs.Known.{Seen, nothing}
-use Rattle.gv_load.specs.Look.{Look, IsTold, look_in}
+use Rattle.gv_load.specs.Causes.{Agrees, Knows, IsTold, look_in}
+use Rattle.gv_load.specs.Reader.{Seen, nothing}
+use Rattle.gv_load.specs.Look.{Look}
 use Rattle.gv_load.specs.Reading.{with_found, after_new, most_path}
 
 -- ---- what the tree tells

@@ -8,10 +8,10 @@ use Rattle.std.specs.FinMap.{get}
 use Rattle.std.proofs.lemmas.Slice.Eq.{bytes_eq-Decides}
 use Rattle.gv_base.specs.Order.{has_text}
 use Rattle.gv_profile.specs.Eapi.{has_bad_eapi}
-use Rattle.gv_profile.specs.Folds.{with_dir, with_files, start, profile_with, profile_of}
+use Rattle.gv_profile.specs.Folding.{with_dir, with_files, start, profile_with, profile_of}
 use Rattle.gv_profile.specs.Names.{eapi_path}
-use Rattle.gv_profile.specs.Parents.{parents_of}
-use Rattle.gv_profile.specs.Walk.{Look, Met, visit, fault, leave, eapi_fault, there, found, at_path, at_parent, walk, walk_below, most_visits, line_dir, from_files, from_dir, line_walk, first_fault, stack_of, stack_fault}
+use Rattle.gv_profile.specs.ParentFiles.{parents_of}
+use Rattle.gv_profile.specs.Walking.{Look, Met, visit, fault, leave, eapi_fault, there, found, at_path, at_parent, walk, walk_below, most_visits, line_dir, from_files, from_dir, line_walk, first_fault, stack_of, stack_fault}
 use Rattle.gv_profile.specs.declared.desc.DescLine.{DescLine}
 use Rattle.gv_profile.specs.declared.faults.ProfileFault.{ProfileFault}
 use Rattle.gv_profile.specs.declared.faults.ProfileFault.TheVariants.{BadEapi}
@@ -23,8 +23,9 @@ use Rattle.gv_load.specs.Ahead.{KeepsDirs}
 use Rattle.gv_load.specs.Closed.{parent_paths, IsClosed, HaveSameStacks}
 use Rattle.gv_load.specs.Directories.{dir_at}
 use Rattle.gv_load.specs.Look as looks
-use Rattle.gv_load.specs.Reach.{Dirs, reach_below, from_line, reached_by}
-use Rattle.gv_load.specs.Stacks.{error_in, error_at, unless, profile_at, limit_of, limit_at, first_limit}
+use Rattle.gv_load.specs.Reaching.{Dirs, reach_below, from_line, reached_by}
+use Rattle.gv_load.specs.Stacks.{error_in, error_at, unless, profile_at}
+use Rattle.gv_load.specs.StackLimits.{limit_of, limit_at, first_limit}
 use Rattle.gv_load.proofs.Closing.{on_left, on_right, in_front, in_back}
 use Rattle.gv_load.proofs.Reaches.{known, new_begins, lines_grow}
 

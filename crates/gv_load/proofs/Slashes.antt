@@ -10,7 +10,7 @@ use Rattle.gv_version.specs.Bytes.{has_only, front, is_digit, is_small}
 use Rattle.gv_version.specs.Bytes as bytes
 use Rattle.gv_version.specs.Laws.{Divides, IsDivided}
 use Rattle.gv_version.specs.Names.{is_category, is_category_byte, is_package, is_package_byte, split_pf}
-use Rattle.gv_version.specs.VersionForm.{Parts, after_small, are_numbers, are_parts, has_form, is_in_suffixes, is_number, is_number_byte, is_version, kind_named, kind_text, long_run, parts_of, revision_text, suffix_of, suffix_text, version_text}
+use Rattle.gv_version.specs.Form.{Parts, after_small, are_numbers, are_parts, has_form, is_in_suffixes, is_number, is_number_byte, is_version, kind_named, kind_text, long_run, parts_of, revision_text, suffix_of, suffix_text, version_text}
 use Rattle.gv_load.specs.Categories.{is_pf, name_of}
 
 -- no byte is a slash

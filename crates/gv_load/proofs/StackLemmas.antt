@@ -2,12 +2,13 @@
 use Rattle.std.proofs.Common.{◌≡◌, List, ◌++◌, false, Some, None, sym, ◌∙◌, append-nil}
 use Rattle.std.specs.Prelude.{Option, option_to_list}
 use Rattle.gv_facts.specs.declared.profile.Profile.{Profile}
-use Rattle.gv_profile.specs.Said.{FaultIs}
+use Rattle.gv_profile.specs.Faults.{FaultIs}
 use Rattle.gv_profile.specs.declared.desc.DescLine.{DescLine}
 use Rattle.gv_profile.specs.declared.faults.ProfileFault.{ProfileFault}
 use Rattle.gv_profile.specs.declared.faults.ProfileFault.TheVariants.{Cycle, MissingParent, MissingProfile, BadEapi, TooMany, NoMemory}
 use Rattle.gv_profile.specs.declared.notes.PlaceNote.{PlaceNote}
-use Rattle.gv_load.specs.Stacks.{error_of, error_in, is_no_memory, unless, limit_of}
+use Rattle.gv_load.specs.Stacks.{error_of, error_in, unless}
+use Rattle.gv_load.specs.StackLimits.{is_no_memory, limit_of}
 
 pub first_is : (first : Option ProfileFault) (fault : ProfileFault) → FaultIs first fault → is_no_memory fault ≡ false → first ≡ Some fault
 first_is first (Cycle path line) is told = is

@@ -2,17 +2,17 @@
 use Rattle.std.proofs.Common.{◌≡◌, ℕ, List, [], ◌∷◌, Some, None, refl}
 use Rattle.std.specs.Option.{option_or}
 use Rattle.std.specs.Prelude.{Option, Ok, Err}
-use Rattle.gv_profile.specs.Walk.{Look, most_visits, stack_fault}
+use Rattle.gv_profile.specs.Walking.{Look, most_visits, stack_fault}
 use Rattle.gv_profile.specs.declared.desc.DescLine.{DescLine}
 use Rattle.gv_profile.specs.declared.faults.ProfileFault.{ProfileFault}
 use Rattle.gv_profile.specs.declared.faults.ProfileFault.TheVariants.{Cycle, MissingParent, MissingProfile, BadEapi, TooMany, NoMemory}
 use Rattle.gv_load.specs.declared.faults.LoadFault.TheVariants.{Limit}
-use Rattle.gv_load.specs.Known.{Seen}
+use Rattle.gv_load.specs.Reader.{Seen}
 use Rattle.gv_load.specs.Look as looks
 use Rattle.gv_load.specs.Order.{is_too_many, stack_steps}
 use Rattle.gv_load.specs.Paths.{stack_place}
 use Rattle.gv_load.specs.Reading.{bound, passed}
-use Rattle.gv_load.specs.Stacks.{limit_of, first_limit}
+use Rattle.gv_load.specs.StackLimits.{limit_of, first_limit}
 
 -- the steps of the stacks are taken unless a line has too many visits
 pub stacks_pass : (look : looks.Look) (seen : Seen) (dirs : Look) (lines : List DescLine) → first_limit dirs lines ≡ None → passed look seen (stack_steps dirs lines) ≡ Ok seen

@@ -1,15 +1,14 @@
--- What is still ahead while directories are reached.
-use Rattle.std.specs.Prelude.{◌≡◌, ℕ, suc, List, [], ◌∷◌, Option, Some, None, if◌then◌else◌, drop, fold, flat_map}
+-- Words of private contracts alone, no rule: what is still ahead while directories are reached.
+use Rattle.std.specs.Prelude.{◌≡◌, ℕ, suc, List, [], ◌∷◌, Option, Some, None, if◌then◌else◌, drop, fold}
 use Rattle.std.specs.FinMap.{get, insert}
 use Rattle.gv_base.specs.Order.{has_text}
-use Rattle.gv_profile.specs.DirMap.{DirMap}
+use Rattle.gv_profile.specs.Dirs.{DirMap}
 use Rattle.gv_profile.specs.declared.files.DirFiles.{DirFiles}
 use Rattle.gv_load.specs.declared.reaching.Ahead.{Ahead}
 use Rattle.gv_load.specs.declared.reaching.Reached.{Reached}
-use Rattle.gv_load.specs.Directories.{dir_at, dir_steps}
+use Rattle.gv_load.specs.Directories.{dir_at}
 use Rattle.gv_load.specs.Look.{Look}
-use Rattle.gv_load.specs.Reach.{Dirs, paths_of, reach_below}
-use Rattle.gv_load.specs.Reading.{Step}
+use Rattle.gv_load.specs.Reaching.{Dirs, paths_of, reach_below}
 
 -- what will be reached in the end: the last parents are gone to first
 abbrev pub reached_after : Dirs → ℕ → List Ahead → List (List ℕ) → List (List ℕ)
@@ -32,7 +31,3 @@ IsIndexed reached = (text : List ℕ) → has_text reached.set.keys text ≡ has
 -- the directories that were reached are kept, and no other
 abbrev pub KeepsDirs : Look → Reached → Type 0
 KeepsDirs look reached = (path : List ℕ) → get reached.dirs path ≡ (if has_text reached.order path then dir_at look path else None)
-
--- the steps of these directories
-abbrev pub steps_of : Look → List (List ℕ) → List Step
-steps_of look dirs = flat_map (dir_steps look) dirs

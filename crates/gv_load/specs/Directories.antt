@@ -119,3 +119,7 @@ steps_as look dir Absent = []
 
 unfoldable pub dir_steps : Look → List ℕ → List Step
 dir_steps look dir = read dir ∷ steps_as look dir (look.found dir)
+
+-- the steps of these directories
+abbrev pub steps_of : Look → List (List ℕ) → List Step
+steps_of look dirs = flat_map (dir_steps look) dirs

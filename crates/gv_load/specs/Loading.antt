@@ -5,7 +5,7 @@ use Rattle.gv_base.specs.FileMap.{FileMap}
 use Rattle.gv_load.specs.declared.faults.LoadFault.{LoadFault}
 use Rattle.gv_load.specs.declared.faults.LoadFault.TheVariants.{Tree, NotARepository, Limit, NoMemory}
 use Rattle.gv_load.specs.declared.loading.Repo.{Repo}
-use Rattle.gv_load.specs.Known.{nothing}
+use Rattle.gv_load.specs.Reader.{nothing}
 use Rattle.gv_load.specs.Look.{Look, look_of}
 use Rattle.gv_load.specs.Order.{load_steps}
 use Rattle.gv_load.specs.Reading.{Out, passed}

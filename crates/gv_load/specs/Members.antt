@@ -1,7 +1,7 @@
 -- Packages put in order, one after another: words of private contracts.
 use Rattle.std.specs.Prelude.{List, fold, Option, Some, None}
 use Rattle.std.specs.BTreeSet.{insert_key}
-use Rattle.gv_load.specs.declared.judging.PfKept.{PfKept}
+use Rattle.gv_load.specs.declared.freshness.PfKept.{PfKept}
 use Rattle.gv_load.specs.declared.members.Member.{Member}
 use Rattle.gv_load.specs.Repository.{member_cmp, member_in}
 

@@ -2,7 +2,7 @@
 use Rattle.std.specs.Prelude.{ℕ, Bool, true, false, not, List, [], ◌∷◌, ◌++◌, map, flat_map, filter_map, Option, Some, None, if◌then◌else◌, codes}
 use Rattle.gv_entry.specs.declared.entry.EntryError.{EntryError}
 use Rattle.gv_profile.specs.Desc.{desc_read}
-use Rattle.gv_profile.specs.DirNotes.{dir_notes, mask_notes}
+use Rattle.gv_profile.specs.BadLines.{dir_notes, mask_notes}
 use Rattle.gv_profile.specs.Lines.{line_words, numbered_lines}
 use Rattle.gv_profile.specs.declared.files.DirFiles.{DirFiles}
 use Rattle.gv_profile.specs.declared.notes.PlaceNote.{PlaceNote}
@@ -13,16 +13,16 @@ use Rattle.gv_report.specs.declared.report.Subject.{Subject}
 use Rattle.gv_report.specs.declared.report.Subject.TheVariants.{Place}
 use Rattle.gv_version.specs.Names.{is_category}
 use Rattle.gv_load.specs.Directories.{text_at, dir_at, files_at}
-use Rattle.gv_load.specs.Judging.{all_kept}
-use Rattle.gv_load.specs.declared.judging.Kept.{Kept}
-use Rattle.gv_load.specs.declared.judging.Kept.TheVariants.{Nothing, Missing, Orphan, Stale, Current}
-use Rattle.gv_load.specs.declared.judging.PfKept.{PfKept}
-use Rattle.gv_load.specs.declared.judging.Why.{Why}
-use Rattle.gv_load.specs.declared.judging.Why.TheVariants.{Ebuild, Eclasses, OneEclass}
+use Rattle.gv_load.specs.Freshness.{all_kept}
+use Rattle.gv_load.specs.declared.freshness.Kept.{Kept}
+use Rattle.gv_load.specs.declared.freshness.Kept.TheVariants.{Nothing, Missing, Orphan, Stale, Current}
+use Rattle.gv_load.specs.declared.freshness.PfKept.{PfKept}
+use Rattle.gv_load.specs.declared.freshness.Why.{Why}
+use Rattle.gv_load.specs.declared.freshness.Why.TheVariants.{Ebuild, Eclasses, OneEclass}
 use Rattle.gv_load.specs.Look.{Look}
 use Rattle.gv_load.specs.Order.{desc_lines, categories, reached}
 use Rattle.gv_load.specs.Paths.{desc_path, categories_path, mask_path}
-use Rattle.gv_load.specs.Reach.{Dirs}
+use Rattle.gv_load.specs.Reaching.{Dirs}
 use Rattle.gv_load.specs.Stacks.{error_at}
 
 -- ---- reports: of a line of a file, or of the package that a PF is of

@@ -7,7 +7,7 @@ use Rattle.gv_base.specs.declared.tree.Found.{Found}
 use Rattle.gv_base.specs.declared.tree.Found.TheVariants.{File, Dir, Absent}
 use Rattle.gv_load.specs.declared.faults.LoadFault.{LoadFault}
 use Rattle.gv_load.specs.declared.faults.LoadFault.TheVariants.{NotARepository, Limit}
-use Rattle.gv_load.specs.Known.{Seen}
+use Rattle.gv_load.specs.Reader.{Seen}
 use Rattle.gv_load.specs.Look.{Look}
 
 -- a path is read, is listed, or is read and has to be a file; a number that was counted is held against its bound; or a

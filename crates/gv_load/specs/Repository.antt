@@ -10,12 +10,12 @@ use Rattle.gv_entry.specs.declared.entry.Entry.{Entry}
 use Rattle.gv_facts.specs.declared.pkg.Pkg.{Pkg}
 use Rattle.gv_report.specs.declared.report.Subject.{Subject}
 use Rattle.gv_report.specs.declared.report.Subject.TheVariants.{Package}
-use Rattle.gv_report.specs.ReportOrder.{subject_cmp}
+use Rattle.gv_report.specs.Order.{subject_cmp}
 use Rattle.gv_load.specs.Directories.{dir_at, files_at}
-use Rattle.gv_load.specs.Judging.{all_kept}
-use Rattle.gv_load.specs.declared.judging.Kept.{Kept}
-use Rattle.gv_load.specs.declared.judging.Kept.TheVariants.{Nothing, Missing, Orphan, Stale, Current}
-use Rattle.gv_load.specs.declared.judging.PfKept.{PfKept}
+use Rattle.gv_load.specs.Freshness.{all_kept}
+use Rattle.gv_load.specs.declared.freshness.Kept.{Kept}
+use Rattle.gv_load.specs.declared.freshness.Kept.TheVariants.{Nothing, Missing, Orphan, Stale, Current}
+use Rattle.gv_load.specs.declared.freshness.PfKept.{PfKept}
 use Rattle.gv_load.specs.declared.loading.Repo.{Repo}
 use Rattle.gv_load.specs.declared.members.Member.{Member}
 use Rattle.gv_load.specs.Look.{Look}

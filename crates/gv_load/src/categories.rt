@@ -8,8 +8,7 @@ ghost use Rattle.std.specs.Str.{bytes_eq};
 ghost use Rattle.gv_base.specs.Order.{in_order, has_text};
 ghost use Rattle.gv_version.specs.Names.{split_pf, is_package};
 ghost use Rattle.gv_load.specs.Categories.{is_pf, name_of, pf_subject, version_of, listed, folders, ends_as_ebuild, front_of, ebuild_in, ebuilds_in, pfs_of};
-ghost use Rattle.gv_load.specs.Causes.{Cause, Knows, Went};
-ghost use Rattle.gv_load.specs.Look.{IsTold, look_in, around};
+ghost use Rattle.gv_load.specs.Causes.{Cause, Knows, Went, IsTold, look_in, around};
 ghost use Rattle.gv_load.specs.Order.{folder_lists, listing_steps};
 ghost use Rattle.gv_load.specs.Paths.{cache_dir, ebuild_end};
 ghost use Rattle.gv_load.specs.Reading.{passed, after_list, list};
@@ -25,6 +24,75 @@ use gv_report::Subject;
 use gv_version::{Version, is_package, split_pf, split_pf_law};
 use std::alloc::Global;
 use std::collections::BTreeSet;
+
+/// The package name in a PF.
+pub(crate) fn name_in(pf: &[u8]) -> Result<&[u8], NoMemory>
+    ensures { IfOk result (λ name. name.now ≡ name_of pf.now) }
+{
+    match hyphen_of(pf) {
+        Ok(Some(at)) => Ok(front(pf, at as usize)),
+        Ok(None) => Ok(front(pf, 0)),
+        Err(_) => Err(NoMemory),
+    }
+}
+
+/// The package that a PF of a category is of.
+pub(crate) fn pf_subject(alloc: Global, category: &Text, pf: &Text) -> Result<Subject, NoMemory>
+    requires { is_pf pf.now ≡ true }
+    ensures { IfOk result (λ subject. subject ≡ pf_subject category.now pf.now) }
+{
+    split_pf_law();
+    let name = name_in(pf.bytes())?;
+    let version = version_in(pf.bytes())?;
+    Ok(Subject::Package {
+        category: category.copy(alloc)?,
+        name: Text::of(alloc, name)?,
+        version: Version::of(alloc, version)?,
+        pf: pf.copy(alloc)?,
+    })
+}
+
+/// The names among a category's entries, and its PFs in byte order.
+#[derive(Drop)]
+pub(crate) struct Listing {
+    pub listed: BTreeSet<Text>,
+    pub pfs: Texts,
+}
+
+/// Lists the folder of a category's entries, then the category's own folder, and then the folders in that one.
+pub(crate) fn list_category<T: Tree>(
+    alloc: Global,
+    reader: &Reader,
+    tree: &mut T,
+    category: &Text,
+) -> Result<Listing, LoadFault>
+    requires { Knows (T.files tree.old) reader.now }
+    ensures listed { IfOk result (λ l. IsTold (T.files tree.old) → (text : List ℕ) → has_text l.listed.keys text ≡ has_text (listed (look_in (T.files tree.old)) category.now) text) }
+    ensures value { IfOk result (λ l. IsTold (T.files tree.old) → l.pfs ≡ pfs_of (look_in (T.files tree.old)) category.now) }
+    ensures pfs { IfOk result (λ l. list_all is_pf l.pfs ≡ true) }
+    ensures went { OnOk result (Went (T.files tree.old) (T.faults tree.old) (T.faults tree.new) (listing_steps (look_in (T.files tree.old)) category.now) reader.now reader.now) }
+    ensures cause { IfErr result (Cause (T.files tree.old) (T.faults tree.old) (T.faults tree.new) (passed (look_in (T.files tree.old)) reader.now (listing_steps (look_in (T.files tree.old)) category.now))) }
+    ensures files { T.files tree.new ≡ T.files tree.old }
+    ensures around { around (T.entered tree.new) (T.lent tree.new) ≡ around (T.entered tree.old) (T.lent tree.old) }
+    ensures later { T.faults tree.old ≤ T.faults tree.new }
+{
+    let entries = match list_entries(alloc, reader, tree, category) {
+        Ok(names) => names,
+        Err(fault) => return Err(fault),
+    };
+    let names = match list_packages(alloc, reader, tree, category) {
+        Ok(names) => names,
+        Err(fault) => return Err(fault),
+    };
+    let ebuilds = match list_folders(alloc, reader, tree, category, &names) {
+        Ok(pfs) => pfs,
+        Err(fault) => return Err(fault),
+    };
+    match with_both(alloc, &entries, &ebuilds) {
+        Ok(listing) => Ok(listing),
+        Err(_) => Err(LoadFault::NoMemory),
+    }
+}
 
 // The place of the hyphen in a PF, None where the name is no PF. Places have 32 bits, and a longer name finds no memory.
 fn hyphen_of(name: &[u8]) -> Result<Option<u32>, NoMemory>
@@ -54,33 +122,6 @@ fn front(bytes: &[u8], at: usize) -> &[u8]
     } else {
         bytes
     }
-}
-
-/// The package name in a PF.
-pub(crate) fn name_in(pf: &[u8]) -> Result<&[u8], NoMemory>
-    ensures { IfOk result (λ name. name.now ≡ name_of pf.now) }
-{
-    match hyphen_of(pf) {
-        Ok(Some(at)) => Ok(front(pf, at as usize)),
-        Ok(None) => Ok(front(pf, 0)),
-        Err(_) => Err(NoMemory),
-    }
-}
-
-/// The package that a PF of a category is of.
-pub(crate) fn pf_subject(alloc: Global, category: &Text, pf: &Text) -> Result<Subject, NoMemory>
-    requires { is_pf pf.now ≡ true }
-    ensures { IfOk result (λ subject. subject ≡ pf_subject category.now pf.now) }
-{
-    split_pf_law();
-    let name = name_in(pf.bytes())?;
-    let version = version_in(pf.bytes())?;
-    Ok(Subject::Package {
-        category: category.copy(alloc)?,
-        name: Text::of(alloc, name)?,
-        version: Version::of(alloc, version)?,
-        pf: pf.copy(alloc)?,
-    })
 }
 
 fn behind(bytes: &[u8], at: usize) -> &[u8]
@@ -322,13 +363,6 @@ fn all_pfs(alloc: Global, entries: &Texts, ebuilds: &Texts) -> Result<Texts, NoM
     Ok(pfs_among(alloc, &names)?)
 }
 
-/// The names among a category's entries, and its PFs in byte order.
-#[derive(Drop)]
-pub(crate) struct Listing {
-    pub listed: BTreeSet<Text>,
-    pub pfs: Texts,
-}
-
 fn with_both(alloc: Global, entries: &Texts, ebuilds: &Texts) -> Result<Listing, NoMemory>
     ensures listed { IfOk result (λ l. (text : List ℕ) → has_text l.listed.keys text ≡ has_text entries.now text) }
     ensures value { IfOk result (λ l. l.pfs ≡ filter is_pf (in_order (entries.now ++ ebuilds.now))) }
@@ -337,39 +371,4 @@ fn with_both(alloc: Global, entries: &Texts, ebuilds: &Texts) -> Result<Listing,
     let listed = set_of(alloc, entries)?;
     let pfs = all_pfs(alloc, entries, ebuilds)?;
     Ok(Listing { listed, pfs })
-}
-
-/// Lists the folder of a category's entries, then the category's own folder, and then the folders in that one.
-pub(crate) fn list_category<T: Tree>(
-    alloc: Global,
-    reader: &Reader,
-    tree: &mut T,
-    category: &Text,
-) -> Result<Listing, LoadFault>
-    requires { Knows (T.files tree.old) reader.now }
-    ensures listed { IfOk result (λ l. IsTold (T.files tree.old) → (text : List ℕ) → has_text l.listed.keys text ≡ has_text (listed (look_in (T.files tree.old)) category.now) text) }
-    ensures value { IfOk result (λ l. IsTold (T.files tree.old) → l.pfs ≡ pfs_of (look_in (T.files tree.old)) category.now) }
-    ensures pfs { IfOk result (λ l. list_all is_pf l.pfs ≡ true) }
-    ensures went { OnOk result (Went (T.files tree.old) (T.faults tree.old) (T.faults tree.new) (listing_steps (look_in (T.files tree.old)) category.now) reader.now reader.now) }
-    ensures cause { IfErr result (Cause (T.files tree.old) (T.faults tree.old) (T.faults tree.new) (passed (look_in (T.files tree.old)) reader.now (listing_steps (look_in (T.files tree.old)) category.now))) }
-    ensures files { T.files tree.new ≡ T.files tree.old }
-    ensures around { around (T.entered tree.new) (T.lent tree.new) ≡ around (T.entered tree.old) (T.lent tree.old) }
-    ensures later { T.faults tree.old ≤ T.faults tree.new }
-{
-    let entries = match list_entries(alloc, reader, tree, category) {
-        Ok(names) => names,
-        Err(fault) => return Err(fault),
-    };
-    let names = match list_packages(alloc, reader, tree, category) {
-        Ok(names) => names,
-        Err(fault) => return Err(fault),
-    };
-    let ebuilds = match list_folders(alloc, reader, tree, category, &names) {
-        Ok(pfs) => pfs,
-        Err(fault) => return Err(fault),
-    };
-    match with_both(alloc, &entries, &ebuilds) {
-        Ok(listing) => Ok(listing),
-        Err(_) => Err(LoadFault::NoMemory),
-    }
 }

@@ -2,10 +2,9 @@
 //!
 //! A directory costs its thirteen paths, those of its file directories, and O(the bytes that are there).
 ghost use Rattle.std.specs.Prelude.{◌≡◌, ◌≤◌, ◌∷◌, [], ◌++◌, Some, IfOk, IfErr, OnOk};
-ghost use Rattle.gv_load.specs.Causes.{Cause, Knows, Went};
+ghost use Rattle.gv_load.specs.Causes.{Cause, Knows, Went, IsTold, look_in, around};
 ghost use Rattle.gv_load.specs.Directories.{bytes_at, files_at, file_steps, dir_files, dir_as, dir_at, head_steps, pair_steps, flag_steps, package_steps, inside_steps, dir_steps};
 ghost use Rattle.gv_load.specs.Layout.{layout};
-ghost use Rattle.gv_load.specs.Look.{IsTold, look_in, around};
 ghost use Rattle.gv_load.specs.Parts.{head_at, pair_at, flags_at, packages_at, all_files};
 ghost use Rattle.gv_load.specs.Reading.{passed, read};
 ghost use Rattle.gv_profile.specs.Paths.{within};
@@ -46,6 +45,34 @@ pub(crate) struct Packages {
     mask: NamedFiles,
     plain: Pair,
     stable: Pair,
+}
+
+/// The files of a profile directory, none where it is no folder.
+pub(crate) fn read_directory<T: Tree>(
+    alloc: Global,
+    reader: &mut Reader,
+    tree: &mut T,
+    names: &Layout,
+    dir: &Text,
+) -> Result<Option<DirFiles>, LoadFault>
+    requires knows { Knows (T.files tree.old) reader.old }
+    requires names { names.now ≡ layout }
+    ensures value { IfOk result (λ value. IsTold (T.files tree.old) → value ≡ dir_at (look_in (T.files tree.old)) dir.now) }
+    ensures went { OnOk result (Went (T.files tree.old) (T.faults tree.old) (T.faults tree.new) (dir_steps (look_in (T.files tree.old)) dir.now) reader.old reader.new) }
+    ensures cause { IfErr result (Cause (T.files tree.old) (T.faults tree.old) (T.faults tree.new) (passed (look_in (T.files tree.old)) reader.old (dir_steps (look_in (T.files tree.old)) dir.now))) }
+    ensures files { T.files tree.new ≡ T.files tree.old }
+    ensures around { around (T.entered tree.new) (T.lent tree.new) ≡ around (T.entered tree.old) (T.lent tree.old) }
+    ensures later { T.faults tree.old ≤ T.faults tree.new }
+{
+    match reader.read(tree, dir) {
+        Ok(Found::Dir) => match read_inside(alloc, reader, tree, names, dir) {
+            Ok(files) => Ok(Some(files)),
+            Err(fault) => Err(fault),
+        },
+        Ok(Found::File(_)) => Ok(None),
+        Ok(Found::Absent) => Ok(None),
+        Err(fault) => Err(fault),
+    }
 }
 
 fn read_bytes<T: Tree>(
@@ -264,33 +291,5 @@ fn all_files(head: Head, flags: Flags, packages: Packages) -> DirFiles
         package_use_force: packages.plain.force,
         package_use_stable_mask: packages.stable.mask,
         package_use_stable_force: packages.stable.force,
-    }
-}
-
-/// The files of a profile directory, none where it is no folder.
-pub(crate) fn read_directory<T: Tree>(
-    alloc: Global,
-    reader: &mut Reader,
-    tree: &mut T,
-    names: &Layout,
-    dir: &Text,
-) -> Result<Option<DirFiles>, LoadFault>
-    requires knows { Knows (T.files tree.old) reader.old }
-    requires names { names.now ≡ layout }
-    ensures value { IfOk result (λ value. IsTold (T.files tree.old) → value ≡ dir_at (look_in (T.files tree.old)) dir.now) }
-    ensures went { OnOk result (Went (T.files tree.old) (T.faults tree.old) (T.faults tree.new) (dir_steps (look_in (T.files tree.old)) dir.now) reader.old reader.new) }
-    ensures cause { IfErr result (Cause (T.files tree.old) (T.faults tree.old) (T.faults tree.new) (passed (look_in (T.files tree.old)) reader.old (dir_steps (look_in (T.files tree.old)) dir.now))) }
-    ensures files { T.files tree.new ≡ T.files tree.old }
-    ensures around { around (T.entered tree.new) (T.lent tree.new) ≡ around (T.entered tree.old) (T.lent tree.old) }
-    ensures later { T.faults tree.old ≤ T.faults tree.new }
-{
-    match reader.read(tree, dir) {
-        Ok(Found::Dir) => match read_inside(alloc, reader, tree, names, dir) {
-            Ok(files) => Ok(Some(files)),
-            Err(fault) => Err(fault),
-        },
-        Ok(Found::File(_)) => Ok(None),
-        Ok(Found::Absent) => Ok(None),
-        Err(fault) => Err(fault),
     }
 }

@@ -2,10 +2,9 @@
 ghost use Rattle.std.specs.Prelude.{◌≡◌, ◌≤◌, ◌∷◌, [], ◌++◌, flat_map, map, IfOk, IfErr, OnOk, OnErr};
 ghost use Rattle.std.specs.FinMap as finite;
 ghost use Rattle.gv_base.specs.Order.{in_order};
-ghost use Rattle.gv_load.specs.Causes.{Cause, Knows, Went};
-ghost use Rattle.gv_load.specs.DigestMap.{digests_with, AllNamed, KeepsDigests};
+ghost use Rattle.gv_load.specs.Causes.{Cause, Knows, Went, IsTold, look_in, around};
+ghost use Rattle.gv_load.specs.DigestWords.{digests_with, AllNamed, KeepsDigests};
 ghost use Rattle.gv_load.specs.Entries.{eclass_name, named_by, names_with, names_in, eclass_names, eclass_digest};
-ghost use Rattle.gv_load.specs.Look.{IsTold, look_in, around};
 ghost use Rattle.gv_load.specs.Order.{eclass_steps};
 ghost use Rattle.gv_load.specs.Paths.{eclass_path};
 ghost use Rattle.gv_load.specs.Reading.{passed, once};
@@ -29,7 +28,7 @@ pub(crate) struct EclassDigests {
 
 impl Model for EclassDigests {
     ghost use Rattle.gv_base.specs.ByteMap.{map_of};
-    ghost use Rattle.gv_load.specs.Digests.{DigestMap, coded_digests};
+    ghost use Rattle.gv_load.specs.EclassDigests.{DigestMap, coded_digests};
 
     ghost Value = { DigestMap };
 
@@ -72,6 +71,40 @@ impl EclassDigests {
     }
 }
 
+/// The eclasses that entries with an ebuild name, in byte order, each once.
+#[tactic(auto, using(crate::proofs::JudgeLemmas::all_of_them))]
+pub(crate) fn eclass_names(alloc: Global, reads: &PfReads) -> Result<Texts, NoMemory>
+    ensures value { IfOk result (λ names. names ≡ eclass_names reads.now) }
+    ensures named { IfOk result (λ names. AllNamed names reads.now) }
+{
+    let names = all_names(alloc, reads)?;
+    Ok(names.in_order(alloc)?)
+}
+
+/// Reads these eclasses, in their order, and keeps the digests of those that are files.
+pub(crate) fn read_eclasses<T: Tree>(
+    alloc: Global,
+    reader: &mut Reader,
+    tree: &mut T,
+    names: &Texts,
+) -> Result<EclassDigests, LoadFault>
+    requires knows { Knows (T.files tree.old) reader.old }
+    ensures value { IfOk result (λ digests. IsTold (T.files tree.old) → KeepsDigests (look_in (T.files tree.old)) names.now digests) }
+    ensures went { OnOk result (Went (T.files tree.old) (T.faults tree.old) (T.faults tree.new) (eclass_steps names.now) reader.old reader.new) }
+    ensures cause { IfErr result (Cause (T.files tree.old) (T.faults tree.old) (T.faults tree.new) (passed (look_in (T.files tree.old)) reader.old (eclass_steps names.now))) }
+    ensures files { T.files tree.new ≡ T.files tree.old }
+    ensures around { around (T.entered tree.new) (T.lent tree.new) ≡ around (T.entered tree.old) (T.lent tree.old) }
+    ensures later { T.faults tree.old ≤ T.faults tree.new }
+{
+    let mut digests = EclassDigests::new(alloc);
+    for name in names.items() {
+        if let Err(fault) = read_eclass(alloc, reader, tree, name, &mut digests) {
+            return Err(fault);
+        }
+    }
+    Ok(digests)
+}
+
 fn add_names(alloc: Global, names: &mut Texts, eclasses: &Eclasses) -> Result<(), NoMemory>
     ensures { OnOk result (names.new ≡ names.old ++ map eclass_name eclasses.now) }
 {
@@ -102,16 +135,6 @@ fn add_named(alloc: Global, names: &mut Texts, read: &PfRead) -> Result<(), NoMe
         (Some(_), None) => Ok(()),
         (None, _) => Ok(()),
     }
-}
-
-/// The eclasses that entries with an ebuild name, in byte order, each once.
-#[tactic(auto, using(crate::proofs::JudgeLemmas::all_of_them))]
-pub(crate) fn eclass_names(alloc: Global, reads: &PfReads) -> Result<Texts, NoMemory>
-    ensures value { IfOk result (λ names. names ≡ eclass_names reads.now) }
-    ensures named { IfOk result (λ names. AllNamed names reads.now) }
-{
-    let names = all_names(alloc, reads)?;
-    Ok(names.in_order(alloc)?)
 }
 
 fn all_names(alloc: Global, reads: &PfReads) -> Result<Texts, NoMemory>
@@ -167,28 +190,4 @@ fn read_eclass<T: Tree>(
         Ok(()) => Ok(()),
         Err(_) => Err(LoadFault::NoMemory),
     }
-}
-
-/// Reads these eclasses, in their order, and keeps the digests of those that are files.
-pub(crate) fn read_eclasses<T: Tree>(
-    alloc: Global,
-    reader: &mut Reader,
-    tree: &mut T,
-    names: &Texts,
-) -> Result<EclassDigests, LoadFault>
-    requires knows { Knows (T.files tree.old) reader.old }
-    ensures value { IfOk result (λ digests. IsTold (T.files tree.old) → KeepsDigests (look_in (T.files tree.old)) names.now digests) }
-    ensures went { OnOk result (Went (T.files tree.old) (T.faults tree.old) (T.faults tree.new) (eclass_steps names.now) reader.old reader.new) }
-    ensures cause { IfErr result (Cause (T.files tree.old) (T.faults tree.old) (T.faults tree.new) (passed (look_in (T.files tree.old)) reader.old (eclass_steps names.now))) }
-    ensures files { T.files tree.new ≡ T.files tree.old }
-    ensures around { around (T.entered tree.new) (T.lent tree.new) ≡ around (T.entered tree.old) (T.lent tree.old) }
-    ensures later { T.faults tree.old ≤ T.faults tree.new }
-{
-    let mut digests = EclassDigests::new(alloc);
-    for name in names.items() {
-        if let Err(fault) = read_eclass(alloc, reader, tree, name, &mut digests) {
-            return Err(fault);
-        }
-    }
-    Ok(digests)
 }

@@ -7,9 +7,8 @@ ghost use Rattle.gv_load.specs.Categories.{is_pf, name_of, pf_subject};
 ghost use Rattle.gv_entry.specs.EntryRead.{entry_of};
 ghost use Rattle.std.specs.Option.{option_map};
 ghost use Rattle.gv_load.specs.Directories.{bytes_at};
-ghost use Rattle.gv_load.specs.Causes.{Cause, Knows, Went};
+ghost use Rattle.gv_load.specs.Causes.{Cause, Knows, Went, IsTold, look_in, around};
 ghost use Rattle.gv_load.specs.Entries.{entry_at, digest_at, pf_read, reads_of, all_reads};
-ghost use Rattle.gv_load.specs.Look.{IsTold, look_in, around};
 ghost use Rattle.gv_load.specs.Order.{entry_steps, pf_steps, pfs_steps, category_steps, categories_steps};
 ghost use Rattle.gv_load.specs.Paths.{entry_path, ebuild_path};
 ghost use Rattle.gv_load.specs.Reading.{passed, once};
@@ -88,6 +87,58 @@ impl PfReads {
     {
         self.items
     }
+}
+
+/// Reads these PFs of a category, in their order.
+pub(crate) fn read_pfs<T: Tree>(
+    alloc: Global,
+    reader: &mut Reader,
+    tree: &mut T,
+    listed: &BTreeSet<Text>,
+    category: &Text,
+    pfs: &Texts,
+    reads: &mut PfReads,
+) -> Result<(), LoadFault>
+    requires knows { Knows (T.files tree.old) reader.old }
+    requires pfs { list_all is_pf pfs.now ≡ true }
+    ensures value { OnOk result (IsTold (T.files tree.old) → reads.new ≡ reads.old ++ map (pf_read (look_in (T.files tree.old)) listed.now.keys category.now) pfs.now) }
+    ensures went { OnOk result (Went (T.files tree.old) (T.faults tree.old) (T.faults tree.new) (pfs_steps listed.now.keys category.now pfs.now) reader.old reader.new) }
+    ensures cause { IfErr result (Cause (T.files tree.old) (T.faults tree.old) (T.faults tree.new) (passed (look_in (T.files tree.old)) reader.old (pfs_steps listed.now.keys category.now pfs.now))) }
+    ensures files { T.files tree.new ≡ T.files tree.old }
+    ensures around { around (T.entered tree.new) (T.lent tree.new) ≡ around (T.entered tree.old) (T.lent tree.old) }
+    ensures later { T.faults tree.old ≤ T.faults tree.new }
+{
+    for pf in pfs.items() {
+        if let Err(fault) = read_next(alloc, reader, tree, listed, category, pf, reads) {
+            return Err(fault);
+        }
+    }
+    Ok(())
+}
+
+/// Reads the PFs of these categories, in their order: for each PF its entry where it is listed, and then its ebuild, whose
+/// bytes are let go.
+pub(crate) fn read_categories<T: Tree>(
+    alloc: Global,
+    reader: &mut Reader,
+    tree: &mut T,
+    categories: &Texts,
+) -> Result<PfReads, LoadFault>
+    requires knows { Knows (T.files tree.old) reader.old }
+    ensures value { IfOk result (λ value. IsTold (T.files tree.old) → value ≡ all_reads (look_in (T.files tree.old)) categories.now) }
+    ensures went { OnOk result (Went (T.files tree.old) (T.faults tree.old) (T.faults tree.new) (categories_steps (look_in (T.files tree.old)) categories.now) reader.old reader.new) }
+    ensures cause { IfErr result (Cause (T.files tree.old) (T.faults tree.old) (T.faults tree.new) (passed (look_in (T.files tree.old)) reader.old (categories_steps (look_in (T.files tree.old)) categories.now))) }
+    ensures files { T.files tree.new ≡ T.files tree.old }
+    ensures around { around (T.entered tree.new) (T.lent tree.new) ≡ around (T.entered tree.old) (T.lent tree.old) }
+    ensures later { T.faults tree.old ≤ T.faults tree.new }
+{
+    let mut reads = PfReads::new(alloc);
+    for category in categories.items() {
+        if let Err(fault) = read_category(alloc, reader, tree, category, &mut reads) {
+            return Err(fault);
+        }
+    }
+    Ok(reads)
 }
 
 fn entry_in(
@@ -274,33 +325,6 @@ fn read_next<T: Tree>(
     }
 }
 
-/// Reads these PFs of a category, in their order.
-pub(crate) fn read_pfs<T: Tree>(
-    alloc: Global,
-    reader: &mut Reader,
-    tree: &mut T,
-    listed: &BTreeSet<Text>,
-    category: &Text,
-    pfs: &Texts,
-    reads: &mut PfReads,
-) -> Result<(), LoadFault>
-    requires knows { Knows (T.files tree.old) reader.old }
-    requires pfs { list_all is_pf pfs.now ≡ true }
-    ensures value { OnOk result (IsTold (T.files tree.old) → reads.new ≡ reads.old ++ map (pf_read (look_in (T.files tree.old)) listed.now.keys category.now) pfs.now) }
-    ensures went { OnOk result (Went (T.files tree.old) (T.faults tree.old) (T.faults tree.new) (pfs_steps listed.now.keys category.now pfs.now) reader.old reader.new) }
-    ensures cause { IfErr result (Cause (T.files tree.old) (T.faults tree.old) (T.faults tree.new) (passed (look_in (T.files tree.old)) reader.old (pfs_steps listed.now.keys category.now pfs.now))) }
-    ensures files { T.files tree.new ≡ T.files tree.old }
-    ensures around { around (T.entered tree.new) (T.lent tree.new) ≡ around (T.entered tree.old) (T.lent tree.old) }
-    ensures later { T.faults tree.old ≤ T.faults tree.new }
-{
-    for pf in pfs.items() {
-        if let Err(fault) = read_next(alloc, reader, tree, listed, category, pf, reads) {
-            return Err(fault);
-        }
-    }
-    Ok(())
-}
-
 // Lists a category, reads the entries and ebuilds of its PFs in byte order, and adds what they are at the end.
 fn read_category<T: Tree>(
     alloc: Global,
@@ -333,29 +357,4 @@ fn read_category<T: Tree>(
         Ok(()) => Ok(()),
         Err(fault) => Err(fault),
     }
-}
-
-/// Reads the PFs of these categories, in their order: for each PF its entry where it is listed, and then its ebuild, whose
-/// bytes are let go.
-pub(crate) fn read_categories<T: Tree>(
-    alloc: Global,
-    reader: &mut Reader,
-    tree: &mut T,
-    categories: &Texts,
-) -> Result<PfReads, LoadFault>
-    requires knows { Knows (T.files tree.old) reader.old }
-    ensures value { IfOk result (λ value. IsTold (T.files tree.old) → value ≡ all_reads (look_in (T.files tree.old)) categories.now) }
-    ensures went { OnOk result (Went (T.files tree.old) (T.faults tree.old) (T.faults tree.new) (categories_steps (look_in (T.files tree.old)) categories.now) reader.old reader.new) }
-    ensures cause { IfErr result (Cause (T.files tree.old) (T.faults tree.old) (T.faults tree.new) (passed (look_in (T.files tree.old)) reader.old (categories_steps (look_in (T.files tree.old)) categories.now))) }
-    ensures files { T.files tree.new ≡ T.files tree.old }
-    ensures around { around (T.entered tree.new) (T.lent tree.new) ≡ around (T.entered tree.old) (T.lent tree.old) }
-    ensures later { T.faults tree.old ≤ T.faults tree.new }
-{
-    let mut reads = PfReads::new(alloc);
-    for category in categories.items() {
-        if let Err(fault) = read_category(alloc, reader, tree, category, &mut reads) {
-            return Err(fault);
-        }
-    }
-    Ok(reads)
 }

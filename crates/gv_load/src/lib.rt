@@ -5,9 +5,9 @@
 //! - `lists`: the lists at the top, and the repository's own masks.
 //! - `layout`, `named_files`, `directories`: the files of a profile directory.
 //! - `reaching`: the directories that are reached by parents, read when they are first reached.
-//! - `stacks`, `profiling`: the stacks of all lines, folded line by line, and what the directories have of bad lines.
+//! - `stacks`, `line_profiles`: the stacks of all lines, folded line by line, and what the directories have of bad lines.
 //! - `categories`, `entries`: the PFs of a category, and what is read of each.
-//! - `eclasses`, `judging`, `packages`: the digests of eclasses, whether an entry is current, and what each PF is.
+//! - `eclasses`, `freshness`, `packages`: the digests of eclasses, whether an entry is current, and what each PF is.
 //! - `members`, `notes`: packages in their order, and the reports of what isn't one.
 //! - `laws`: each path is read once.
 //!
@@ -20,9 +20,10 @@ mod directories;
 mod eclasses;
 mod entries;
 mod faults;
-mod judging;
+mod freshness;
 mod laws;
 mod layout;
+mod line_profiles;
 mod lists;
 mod loading;
 mod members;
@@ -30,7 +31,6 @@ mod named_files;
 mod notes;
 mod packages;
 mod paths;
-mod profiling;
 mod reaching;
 mod reader;
 mod stacks;

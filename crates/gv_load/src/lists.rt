@@ -1,12 +1,11 @@
 //! The lists at the top of a repository and its own masks (PMS chapter 4). O(bytes), and the categories are sorted.
 ghost use Rattle.std.specs.Prelude.{◌≡◌, ◌≤◌, ◌+◌, ◌++◌, IfOk, IfErr, OnOk, option_to_list};
 ghost use Rattle.gv_load.specs.Categories.{category_in, categories_in};
-ghost use Rattle.gv_load.specs.Causes.{Cause, Knows, Went};
-ghost use Rattle.gv_load.specs.Look.{IsTold, look_in, around};
+ghost use Rattle.gv_load.specs.Causes.{Cause, Knows, Went, IsTold, look_in, around};
 ghost use Rattle.gv_load.specs.Notes.{bad_category, category_detail, category_notes, is_bad_category};
 ghost use Rattle.gv_load.specs.Order.{list_steps};
 ghost use Rattle.gv_load.specs.Paths.{desc_path, categories_path, mask_path};
-ghost use Rattle.gv_load.specs.Read.{lists_of, lists_with, top_paths};
+ghost use Rattle.gv_load.specs.PartsRead.{lists_of, lists_with, top_paths};
 ghost use Rattle.gv_load.specs.Reading.{passed};
 ghost use Rattle.gv_profile.specs.Lines.{line_words};
 

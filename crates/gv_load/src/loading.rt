@@ -4,23 +4,23 @@
 //! were read, and what folding the stacks costs. Files of profiles are kept until the end; of an entry what it says is
 //! kept, and of ebuilds and eclasses their digests.
 ghost use Rattle.std.specs.Prelude.{◌≡◌, ◌≤◌, Ok, length, IfOk, IfErr, IfSome, OnOk};
-ghost use Rattle.gv_load.specs.Causes.{Cause, Knows, Went};
+ghost use Rattle.gv_load.specs.Causes.{Cause, Knows, Went, IsTold, around, look_in};
 ghost use Rattle.gv_load.specs.Layout.{layout};
 ghost use Rattle.gv_load.specs.Loading.{LoadCause, loading};
-ghost use Rattle.gv_load.specs.Look.{IsTold, around, look_in, look_of};
+ghost use Rattle.gv_load.specs.Look.{look_of};
 ghost use Rattle.gv_load.specs.Order.{load_steps};
-ghost use Rattle.gv_load.specs.Read.{notes_with, repo_with, top_paths};
+ghost use Rattle.gv_load.specs.PartsRead.{notes_with, repo_with, top_paths};
 ghost use Rattle.gv_load.specs.Reading.{passed};
 ghost use Rattle.gv_load.specs.Repository.{AreInPackageOrder, repository};
 
 use crate::LoadFault;
-use crate::judging::PfsKept;
+use crate::freshness::PfsKept;
 use crate::layout::{Layout, dir_names};
+use crate::line_profiles::{Profiled, read_profiles};
 use crate::lists::{Lists, TopPaths, read_lists, top_paths};
 use crate::members::{Bodies, packages_in};
 use crate::notes::{add_pfs, add_places};
 use crate::packages::read_packages;
-use crate::profiling::{Profiled, read_profiles};
 use crate::reader::Reader;
 use gv_base::{NoMemory, Tree};
 use gv_facts::{Pkgs, Profiles};

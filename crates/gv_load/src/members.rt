@@ -3,7 +3,7 @@ ghost use Rattle.std.specs.Prelude.{◌≡◌, ◌∷◌, [], ◌++◌, map, IfO
 ghost use Rattle.gv_load.specs.Members.{with_all, with_member};
 ghost use Rattle.gv_load.specs.Repository.{AreInPackageOrder, body_of, in_package_order, member_cmp, member_in, member_of, members_in, pkg_of};
 
-use crate::judging::{Kept, PfsKept};
+use crate::freshness::{Kept, PfsKept};
 use gv_base::NoMemory;
 use gv_entry::{Body, Entry};
 use gv_facts::{Pkg, Pkgs};

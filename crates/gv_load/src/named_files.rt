@@ -2,9 +2,8 @@
 //!
 //! A file costs its path, a folder its listing and a path for each name that counts.
 ghost use Rattle.std.specs.Prelude.{◌≡◌, ◌≤◌, ◌∷◌, [], ◌++◌, filter, IfOk, IfErr, OnOk};
-ghost use Rattle.gv_load.specs.Causes.{Cause, Knows, Went};
+ghost use Rattle.gv_load.specs.Causes.{Cause, Knows, Went, IsTold, look_in, around};
 ghost use Rattle.gv_load.specs.Directories.{has_dot, counts, folder_names, name_steps, folder_steps, file_steps, plain_file, folder_files, files_as, files_at};
-ghost use Rattle.gv_load.specs.Look.{IsTold, look_in, around};
 ghost use Rattle.gv_load.specs.Reading.{passed, read, list};
 ghost use Rattle.gv_profile.specs.Paths.{within};
 
@@ -13,6 +12,61 @@ use crate::reader::{Reader, list_names};
 use gv_base::{Found, NoMemory, Text, Texts, Tree, has_plain_bytes};
 use gv_profile::{NamedFile, NamedFiles, within};
 use std::alloc::Global;
+
+/// The plain file at a path, or the files of the folder there in byte order of their names, without subdirectories and
+/// without names that begin with a dot; none where neither is there.
+pub(crate) fn read_files<T: Tree>(
+    alloc: Global,
+    reader: &mut Reader,
+    tree: &mut T,
+    path: &Text,
+) -> Result<NamedFiles, LoadFault>
+    requires { Knows (T.files tree.old) reader.old }
+    ensures named { IfOk result (λ named. IsTold (T.files tree.old) → named ≡ files_at (look_in (T.files tree.old)) path.now) }
+    ensures went { OnOk result (Went (T.files tree.old) (T.faults tree.old) (T.faults tree.new) (file_steps (look_in (T.files tree.old)) path.now) reader.old reader.new) }
+    ensures cause { IfErr result (Cause (T.files tree.old) (T.faults tree.old) (T.faults tree.new) (passed (look_in (T.files tree.old)) reader.old (file_steps (look_in (T.files tree.old)) path.now))) }
+    ensures files { T.files tree.new ≡ T.files tree.old }
+    ensures around { around (T.entered tree.new) (T.lent tree.new) ≡ around (T.entered tree.old) (T.lent tree.old) }
+    ensures later { T.faults tree.old ≤ T.faults tree.new }
+{
+    match reader.read(tree, path) {
+        Ok(Found::File(bytes)) => match one(alloc, path, bytes) {
+            Ok(files) => Ok(files),
+            Err(fault) => Err(fault),
+        },
+        Ok(Found::Dir) => match read_folder(alloc, reader, tree, path) {
+            Ok(files) => Ok(files),
+            Err(fault) => Err(fault),
+        },
+        Ok(Found::Absent) => Ok(NamedFiles::new(alloc)),
+        Err(fault) => Err(fault),
+    }
+}
+
+/// The same of a name in a directory.
+pub(crate) fn read_named<T: Tree>(
+    alloc: Global,
+    reader: &mut Reader,
+    tree: &mut T,
+    dir: &Text,
+    name: &Text,
+) -> Result<NamedFiles, LoadFault>
+    requires { Knows (T.files tree.old) reader.old }
+    ensures named { IfOk result (λ named. IsTold (T.files tree.old) → named ≡ files_at (look_in (T.files tree.old)) (within dir.now name.now)) }
+    ensures went { OnOk result (Went (T.files tree.old) (T.faults tree.old) (T.faults tree.new) (file_steps (look_in (T.files tree.old)) (within dir.now name.now)) reader.old reader.new) }
+    ensures cause { IfErr result (Cause (T.files tree.old) (T.faults tree.old) (T.faults tree.new) (passed (look_in (T.files tree.old)) reader.old (file_steps (look_in (T.files tree.old)) (within dir.now name.now)))) }
+    ensures files { T.files tree.new ≡ T.files tree.old }
+    ensures around { around (T.entered tree.new) (T.lent tree.new) ≡ around (T.entered tree.old) (T.lent tree.old) }
+    ensures later { T.faults tree.old ≤ T.faults tree.new }
+{
+    let Ok(path) = within(alloc, dir, name.bytes()) else {
+        return Err(LoadFault::NoMemory);
+    };
+    match read_files(alloc, reader, tree, &path) {
+        Ok(files) => Ok(files),
+        Err(fault) => Err(fault),
+    }
+}
 
 fn has_dot(name: &[u8]) -> bool
     ensures { result ≡ has_dot name.now }
@@ -148,60 +202,5 @@ fn one(alloc: Global, path: &Text, bytes: Text) -> Result<NamedFiles, LoadFault>
     match files.add(NamedFile { path, bytes }) {
         Ok(()) => Ok(files),
         Err(_) => Err(LoadFault::NoMemory),
-    }
-}
-
-/// The plain file at a path, or the files of the folder there in byte order of their names, without subdirectories and
-/// without names that begin with a dot; none where neither is there.
-pub(crate) fn read_files<T: Tree>(
-    alloc: Global,
-    reader: &mut Reader,
-    tree: &mut T,
-    path: &Text,
-) -> Result<NamedFiles, LoadFault>
-    requires { Knows (T.files tree.old) reader.old }
-    ensures named { IfOk result (λ named. IsTold (T.files tree.old) → named ≡ files_at (look_in (T.files tree.old)) path.now) }
-    ensures went { OnOk result (Went (T.files tree.old) (T.faults tree.old) (T.faults tree.new) (file_steps (look_in (T.files tree.old)) path.now) reader.old reader.new) }
-    ensures cause { IfErr result (Cause (T.files tree.old) (T.faults tree.old) (T.faults tree.new) (passed (look_in (T.files tree.old)) reader.old (file_steps (look_in (T.files tree.old)) path.now))) }
-    ensures files { T.files tree.new ≡ T.files tree.old }
-    ensures around { around (T.entered tree.new) (T.lent tree.new) ≡ around (T.entered tree.old) (T.lent tree.old) }
-    ensures later { T.faults tree.old ≤ T.faults tree.new }
-{
-    match reader.read(tree, path) {
-        Ok(Found::File(bytes)) => match one(alloc, path, bytes) {
-            Ok(files) => Ok(files),
-            Err(fault) => Err(fault),
-        },
-        Ok(Found::Dir) => match read_folder(alloc, reader, tree, path) {
-            Ok(files) => Ok(files),
-            Err(fault) => Err(fault),
-        },
-        Ok(Found::Absent) => Ok(NamedFiles::new(alloc)),
-        Err(fault) => Err(fault),
-    }
-}
-
-/// The same of a name in a directory.
-pub(crate) fn read_named<T: Tree>(
-    alloc: Global,
-    reader: &mut Reader,
-    tree: &mut T,
-    dir: &Text,
-    name: &Text,
-) -> Result<NamedFiles, LoadFault>
-    requires { Knows (T.files tree.old) reader.old }
-    ensures named { IfOk result (λ named. IsTold (T.files tree.old) → named ≡ files_at (look_in (T.files tree.old)) (within dir.now name.now)) }
-    ensures went { OnOk result (Went (T.files tree.old) (T.faults tree.old) (T.faults tree.new) (file_steps (look_in (T.files tree.old)) (within dir.now name.now)) reader.old reader.new) }
-    ensures cause { IfErr result (Cause (T.files tree.old) (T.faults tree.old) (T.faults tree.new) (passed (look_in (T.files tree.old)) reader.old (file_steps (look_in (T.files tree.old)) (within dir.now name.now)))) }
-    ensures files { T.files tree.new ≡ T.files tree.old }
-    ensures around { around (T.entered tree.new) (T.lent tree.new) ≡ around (T.entered tree.old) (T.lent tree.old) }
-    ensures later { T.faults tree.old ≤ T.faults tree.new }
-{
-    let Ok(path) = within(alloc, dir, name.bytes()) else {
-        return Err(LoadFault::NoMemory);
-    };
-    match read_files(alloc, reader, tree, &path) {
-        Ok(files) => Ok(files),
-        Err(fault) => Err(fault),
     }
 }

@@ -2,7 +2,7 @@
 ghost use Rattle.std.specs.Prelude.{◌≡◌, ◌∷◌, [], ◌++◌, map, flat_map, IfOk, OnOk};
 ghost use Rattle.gv_load.specs.Notes.{error_report, kept_notes, pf_notes, pf_report, place_report, stale_detail};
 
-use crate::judging::{Kept, PfKept, PfsKept, Why};
+use crate::freshness::{Kept, PfKept, PfsKept, Why};
 use gv_base::{NoMemory, Text};
 use gv_entry::EntryErrors;
 use gv_profile::{PlaceNote, PlaceNotes};

@@ -1,15 +1,14 @@
-//! The PFs of the categories, each with what it is. Costs what `entries`, `eclasses` and `judging` say.
+//! The PFs of the categories, each with what it is. Costs what `entries`, `eclasses` and `freshness` say.
 ghost use Rattle.std.specs.Prelude.{◌≡◌, ◌≤◌, IfOk, IfErr, OnOk};
-ghost use Rattle.gv_load.specs.Causes.{Cause, Knows, Went};
-ghost use Rattle.gv_load.specs.Judging.{all_kept};
-ghost use Rattle.gv_load.specs.Look.{IsTold, look_in, around};
+ghost use Rattle.gv_load.specs.Causes.{Cause, Knows, Went, IsTold, look_in, around};
+ghost use Rattle.gv_load.specs.Freshness.{all_kept};
 ghost use Rattle.gv_load.specs.Order.{packages_steps};
 ghost use Rattle.gv_load.specs.Reading.{passed};
 
 use crate::LoadFault;
 use crate::eclasses::{eclass_names, read_eclasses};
 use crate::entries::read_categories;
-use crate::judging::{PfsKept, judge_all};
+use crate::freshness::{PfsKept, judge_all};
 use crate::reader::Reader;
 use gv_base::{Texts, Tree};
 use std::alloc::Global;

@@ -47,15 +47,6 @@ pub(crate) fn entry_path(alloc: Global, category: &Text, pf: &Text) -> Result<Te
     within(alloc, &folder, pf.bytes())
 }
 
-#[tactic(auto, unfolding(crate::specs::Paths::ebuild_end))]
-fn ebuild_name(alloc: Global, pf: &Text) -> Result<Text, NoMemory>
-    ensures { IfOk result (λ name. name ≡ pf.now ++ ebuild_end) }
-{
-    let mut name = pf.copy(alloc)?;
-    name.append(b".ebuild".as_slice())?;
-    Ok(name)
-}
-
 /// The ebuild of a PF with this name.
 pub(crate) fn ebuild_path(
     alloc: Global,
@@ -78,4 +69,13 @@ pub(crate) fn eclass_path(alloc: Global, name: &Text) -> Result<Text, NoMemory>
     let mut file = name.copy(alloc)?;
     file.append(b".eclass".as_slice())?;
     within(alloc, &folder, file.bytes())
+}
+
+#[tactic(auto, unfolding(crate::specs::Paths::ebuild_end))]
+fn ebuild_name(alloc: Global, pf: &Text) -> Result<Text, NoMemory>
+    ensures { IfOk result (λ name. name ≡ pf.now ++ ebuild_end) }
+{
+    let mut name = pf.copy(alloc)?;
+    name.append(b".ebuild".as_slice())?;
+    Ok(name)
 }

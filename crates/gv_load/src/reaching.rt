@@ -6,16 +6,15 @@ ghost use Rattle.std.specs.FinMap as finite;
 ghost use Rattle.std.specs.Prelude.{◌≡◌, ◌≤◌, ◌<◌, ◌∷◌, [], ◌++◌, ◌||◌, false, ℕ, List, Ok, length, IfOk, IfErr, OnOk};
 ghost use Rattle.std.specs.Str.{bytes_eq};
 ghost use Rattle.gv_base.specs.Order.{has_text};
-ghost use Rattle.gv_load.specs.Ahead.{reached_after, ahead_of, dirs_with, IsIndexed, KeepsDirs, steps_of};
-ghost use Rattle.gv_load.specs.Causes.{Cause, Knows, Went};
+ghost use Rattle.gv_load.specs.Ahead.{reached_after, ahead_of, dirs_with, IsIndexed, KeepsDirs};
+ghost use Rattle.gv_load.specs.Directories.{steps_of, dir_at, dir_steps};
+ghost use Rattle.gv_load.specs.Causes.{Cause, Knows, Went, IsTold, look_in, around};
 ghost use Rattle.gv_load.specs.Closed.{IsClosed, IsClosedBut, paths_left, HaveSameStacks};
-ghost use Rattle.gv_load.specs.Directories.{dir_at, dir_steps};
-ghost use Rattle.gv_load.specs.Known.{Seen};
+ghost use Rattle.gv_load.specs.Reader.{Seen};
 ghost use Rattle.gv_load.specs.Layout.{layout};
-ghost use Rattle.gv_load.specs.Look.{IsTold, look_in, around};
-ghost use Rattle.gv_load.specs.Reach.{paths_of, reach_below, reached_by, from_line};
+ghost use Rattle.gv_load.specs.Reaching.{paths_of, reach_below, reached_by, from_line};
 ghost use Rattle.gv_load.specs.Reading.{passed};
-ghost use Rattle.gv_profile.specs.Walk.{line_dir};
+ghost use Rattle.gv_profile.specs.Walking.{line_dir};
 
 use crate::LoadFault;
 use crate::directories::read_directory;
@@ -60,6 +59,42 @@ pub(crate) fn add_key(set: &mut BTreeSet<Text>, word: Text) -> Result<(), NoMemo
     in_order_law();
     set.insert(word)?;
     Ok(())
+}
+
+/// The directories that the lines reach by parents, in the order in which they are read, with their files. Reading goes by
+/// parents alone, also behind a fault of a stack. The stack of each line is the same over what was read as over the tree.
+pub(crate) fn read_dirs<T: Tree>(
+    alloc: Global,
+    reader: &mut Reader,
+    tree: &mut T,
+    names: &Layout,
+    lines: &DescLines,
+) -> Result<Reached, LoadFault>
+    requires knows { Knows (T.files tree.old) reader.old }
+    requires names { names.now ≡ layout }
+    ensures order { IfOk result (λ r. IsTold (T.files tree.old) → r.order ≡ reached_by (dir_at (look_in (T.files tree.old))) [] lines.now) }
+    ensures passed { OnOk result (IsTold (T.files tree.old) → passed (look_in (T.files tree.old)) reader.old (steps_of (look_in (T.files tree.old)) (reached_by (dir_at (look_in (T.files tree.old))) [] lines.now)) ≡ Ok reader.new) }
+    ensures dirs { IfOk result (λ r. IsTold (T.files tree.old) → KeepsDirs (look_in (T.files tree.old)) r) }
+    ensures stacks { IfOk result (λ r. IsTold (T.files tree.old) → HaveSameStacks (finite.get r.dirs) (dir_at (look_in (T.files tree.old))) lines.now) }
+    ensures knows { OnOk result (Knows (T.files tree.old) reader.new) }
+    ensures calm { OnOk result (T.faults tree.new ≡ T.faults tree.old) }
+    ensures cause { IfErr result (Cause (T.files tree.old) (T.faults tree.old) (T.faults tree.new) (passed (look_in (T.files tree.old)) reader.old (steps_of (look_in (T.files tree.old)) (reached_by (dir_at (look_in (T.files tree.old))) [] lines.now)))) }
+    ensures files { T.files tree.new ≡ T.files tree.old }
+    ensures around { around (T.entered tree.new) (T.lent tree.new) ≡ around (T.entered tree.old) (T.lent tree.old) }
+    ensures later { T.faults tree.old ≤ T.faults tree.new }
+{
+    let mut reached = Reached {
+        order: Texts::new(alloc),
+        set: BTreeSet::new(alloc),
+        dirs: Dirs::new(alloc),
+    };
+    for line in lines.items() {
+        reached = match read_line(alloc, reader, tree, names, reached, line) {
+            Ok(reached) => reached,
+            Err(fault) => return Err(fault),
+        };
+    }
+    Ok(reached)
 }
 
 // The paths of a directory's parents.
@@ -318,40 +353,4 @@ fn read_line<T: Tree>(
         Ok(None) => Ok(reached),
         Err(_) => Err(LoadFault::NoMemory),
     }
-}
-
-/// The directories that the lines reach by parents, in the order in which they are read, with their files. Reading goes by
-/// parents alone, also behind a fault of a stack. The stack of each line is the same over what was read as over the tree.
-pub(crate) fn read_dirs<T: Tree>(
-    alloc: Global,
-    reader: &mut Reader,
-    tree: &mut T,
-    names: &Layout,
-    lines: &DescLines,
-) -> Result<Reached, LoadFault>
-    requires knows { Knows (T.files tree.old) reader.old }
-    requires names { names.now ≡ layout }
-    ensures order { IfOk result (λ r. IsTold (T.files tree.old) → r.order ≡ reached_by (dir_at (look_in (T.files tree.old))) [] lines.now) }
-    ensures passed { OnOk result (IsTold (T.files tree.old) → passed (look_in (T.files tree.old)) reader.old (steps_of (look_in (T.files tree.old)) (reached_by (dir_at (look_in (T.files tree.old))) [] lines.now)) ≡ Ok reader.new) }
-    ensures dirs { IfOk result (λ r. IsTold (T.files tree.old) → KeepsDirs (look_in (T.files tree.old)) r) }
-    ensures stacks { IfOk result (λ r. IsTold (T.files tree.old) → HaveSameStacks (finite.get r.dirs) (dir_at (look_in (T.files tree.old))) lines.now) }
-    ensures knows { OnOk result (Knows (T.files tree.old) reader.new) }
-    ensures calm { OnOk result (T.faults tree.new ≡ T.faults tree.old) }
-    ensures cause { IfErr result (Cause (T.files tree.old) (T.faults tree.old) (T.faults tree.new) (passed (look_in (T.files tree.old)) reader.old (steps_of (look_in (T.files tree.old)) (reached_by (dir_at (look_in (T.files tree.old))) [] lines.now)))) }
-    ensures files { T.files tree.new ≡ T.files tree.old }
-    ensures around { around (T.entered tree.new) (T.lent tree.new) ≡ around (T.entered tree.old) (T.lent tree.old) }
-    ensures later { T.faults tree.old ≤ T.faults tree.new }
-{
-    let mut reached = Reached {
-        order: Texts::new(alloc),
-        set: BTreeSet::new(alloc),
-        dirs: Dirs::new(alloc),
-    };
-    for line in lines.items() {
-        reached = match read_line(alloc, reader, tree, names, reached, line) {
-            Ok(reached) => reached,
-            Err(fault) => return Err(fault),
-        };
-    }
-    Ok(reached)
 }

@@ -4,11 +4,10 @@
 ghost use Rattle.std.specs.Prelude.{◌≡◌, ◌≤◌, ◌∷◌, [], Ok, Err, Some, length, IfOk, IfErr, OnOk, option_copied, ◌⊎◌};
 ghost use Rattle.std.specs.FinMap as finite;
 ghost use Rattle.gv_base.specs.Outside.{HasAtMost, most_file_bytes};
-ghost use Rattle.gv_load.specs.Causes.{Cause, Knows, Went};
+ghost use Rattle.gv_load.specs.Causes.{Cause, Knows, Went, IsTold, look_in, around};
 ghost use Rattle.gv_load.specs.Directories.{bytes_in, bytes_at, text_at};
 ghost use Rattle.gv_load.specs.Entries.{digest_at};
-ghost use Rattle.gv_load.specs.Known.{Seen, nothing};
-ghost use Rattle.gv_load.specs.Look.{IsTold, look_in, around};
+ghost use Rattle.gv_load.specs.Reader.{Seen, nothing};
 ghost use Rattle.gv_load.specs.Reading.{after_read, after_new, after_list, with_new, with_found, passed, read, need, once};
 
 use crate::LoadFault;
@@ -33,7 +32,7 @@ pub(crate) struct Reader {
 
 impl Model for Reader {
     ghost use Rattle.gv_base.specs.ByteMap.{map_of};
-    ghost use Rattle.gv_load.specs.Known.{Seen, coded_seen};
+    ghost use Rattle.gv_load.specs.Reader.{Seen, coded_seen};
 
     ghost Value = { Seen };
 
@@ -279,6 +278,35 @@ impl Reader {
     }
 }
 
+/// The names below a path, in byte order.
+#[tactic(auto, using(crate::proofs::Readings::told_names))]
+pub(crate) fn list_names<T: Tree>(
+    alloc: Global,
+    tree: &mut T,
+    path: &Text,
+) -> Result<Texts, LoadFault>
+    ensures names { IfOk result (λ names. IsTold (T.files tree.old) → names ≡ (look_in (T.files tree.old)).names path.now) }
+    ensures passed { (seen : Seen) → OnOk result (after_list seen path.now ≡ Ok seen) }
+    ensures cause { (seen : Seen) → IfErr result (Cause (T.files tree.old) (T.faults tree.old) (T.faults tree.new) (after_list seen path.now)) }
+    ensures files { T.files tree.new ≡ T.files tree.old }
+    ensures around { around (T.entered tree.new) (T.lent tree.new) ≡ around (T.entered tree.old) (T.lent tree.old) }
+    ensures later { T.faults tree.old ≤ T.faults tree.new }
+    ensures calm { OnOk result (T.faults tree.new ≡ T.faults tree.old) }
+{
+    if path.bytes().len() as u64 > MAX_PATH_BYTES {
+        return Err(limit(alloc, path, MAX_PATH_BYTES));
+    }
+    match tree.list(alloc, path) {
+        Ok(parts) => match parts.in_order(alloc) {
+            Ok(names) => Ok(names),
+            Err(_) => Err(LoadFault::NoMemory),
+        },
+        Err(TreeFault::Failed) => Err(failed(alloc, path)),
+        Err(TreeFault::TooLarge) => unreachable!(),
+        Err(TreeFault::NoMemory) => Err(LoadFault::NoMemory),
+    }
+}
+
 fn copy_found(alloc: Global, found: &Found) -> Result<Found, NoMemory>
     ensures { IfOk result (λ copied. copied ≡ found.now) }
 {
@@ -313,35 +341,6 @@ fn read_new<T: Tree>(alloc: Global, tree: &mut T, path: &Text) -> Result<Found, 
         Ok(found) => Ok(found),
         Err(TreeFault::Failed) => Err(failed(alloc, path)),
         Err(TreeFault::TooLarge) => Err(limit(alloc, path, MAX_FILE_BYTES)),
-        Err(TreeFault::NoMemory) => Err(LoadFault::NoMemory),
-    }
-}
-
-/// The names below a path, in byte order.
-#[tactic(auto, using(crate::proofs::Readings::told_names))]
-pub(crate) fn list_names<T: Tree>(
-    alloc: Global,
-    tree: &mut T,
-    path: &Text,
-) -> Result<Texts, LoadFault>
-    ensures names { IfOk result (λ names. IsTold (T.files tree.old) → names ≡ (look_in (T.files tree.old)).names path.now) }
-    ensures passed { (seen : Seen) → OnOk result (after_list seen path.now ≡ Ok seen) }
-    ensures cause { (seen : Seen) → IfErr result (Cause (T.files tree.old) (T.faults tree.old) (T.faults tree.new) (after_list seen path.now)) }
-    ensures files { T.files tree.new ≡ T.files tree.old }
-    ensures around { around (T.entered tree.new) (T.lent tree.new) ≡ around (T.entered tree.old) (T.lent tree.old) }
-    ensures later { T.faults tree.old ≤ T.faults tree.new }
-    ensures calm { OnOk result (T.faults tree.new ≡ T.faults tree.old) }
-{
-    if path.bytes().len() as u64 > MAX_PATH_BYTES {
-        return Err(limit(alloc, path, MAX_PATH_BYTES));
-    }
-    match tree.list(alloc, path) {
-        Ok(parts) => match parts.in_order(alloc) {
-            Ok(names) => Ok(names),
-            Err(_) => Err(LoadFault::NoMemory),
-        },
-        Err(TreeFault::Failed) => Err(failed(alloc, path)),
-        Err(TreeFault::TooLarge) => unreachable!(),
         Err(TreeFault::NoMemory) => Err(LoadFault::NoMemory),
     }
 }

@@ -2,7 +2,8 @@
 ghost use Rattle.std.specs.Prelude.{◌≡◌, ◌++◌, ◌∷◌, [], Some, None, false, filter_map, option_to_list, IfOk, IfErr, OnOk};
 ghost use Rattle.std.specs.FinMap as finite;
 ghost use Rattle.gv_load.specs.Paths.{desc_path, stack_place};
-ghost use Rattle.gv_load.specs.Stacks.{detail_of, wrong_at, error_of, is_no_memory, error_at, profile_at, limit_of, limit_at, first_limit, LimitIs};
+ghost use Rattle.gv_load.specs.Stacks.{detail_of, wrong_at, error_of, error_at, profile_at};
+ghost use Rattle.gv_load.specs.StackLimits.{is_no_memory, limit_of, limit_at, first_limit, LimitIs};
 
 use crate::LoadFault;
 use crate::paths::desc_path;
@@ -27,6 +28,32 @@ pub(crate) enum Wrong {
     NoParent,
     NoProfile,
     NoEapi,
+}
+
+/// The profiles of the lines whose stack has no fault, and the faults of the others, in the order of the lines. The first
+/// line whose stack has more than 4,096 visits is a limit at `profiles/` and its path.
+pub(crate) fn fold_lines(
+    alloc: Global,
+    dirs: &Dirs,
+    first: &NamedFiles,
+    lines: &DescLines,
+) -> Result<Folds, LoadFault>
+    ensures profiles { IfOk result (λ f. f.profiles ≡ filter_map (profile_at (finite.get dirs.now) first.now) lines.now) }
+    ensures errors { IfOk result (λ f. f.errors ≡ filter_map (error_at (finite.get dirs.now)) lines.now) }
+    ensures passed { OnOk result (first_limit (finite.get dirs.now) lines.now ≡ None) }
+    ensures cause { IfErr result (LimitIs (first_limit (finite.get dirs.now) lines.now)) }
+{
+    let mut folds = Folds {
+        profiles: Profiles::new(alloc),
+        errors: PlaceNotes::new(alloc),
+    };
+    for line in lines.items() {
+        folds = match fold_line(alloc, dirs, first, line, folds) {
+            Ok(folds) => folds,
+            Err(fault) => return Err(fault),
+        };
+    }
+    Ok(folds)
 }
 
 #[tactic(auto, unfolding(crate::specs::Stacks::detail_of))]
@@ -157,30 +184,4 @@ fn fold_line(
             Err(fault) => Err(fault),
         },
     }
-}
-
-/// The profiles of the lines whose stack has no fault, and the faults of the others, in the order of the lines. The first
-/// line whose stack has more than 4,096 visits is a limit at `profiles/` and its path.
-pub(crate) fn fold_lines(
-    alloc: Global,
-    dirs: &Dirs,
-    first: &NamedFiles,
-    lines: &DescLines,
-) -> Result<Folds, LoadFault>
-    ensures profiles { IfOk result (λ f. f.profiles ≡ filter_map (profile_at (finite.get dirs.now) first.now) lines.now) }
-    ensures errors { IfOk result (λ f. f.errors ≡ filter_map (error_at (finite.get dirs.now)) lines.now) }
-    ensures passed { OnOk result (first_limit (finite.get dirs.now) lines.now ≡ None) }
-    ensures cause { IfErr result (LimitIs (first_limit (finite.get dirs.now) lines.now)) }
-{
-    let mut folds = Folds {
-        profiles: Profiles::new(alloc),
-        errors: PlaceNotes::new(alloc),
-    };
-    for line in lines.items() {
-        folds = match fold_line(alloc, dirs, first, line, folds) {
-            Ok(folds) => folds,
-            Err(fault) => return Err(fault),
-        };
-    }
-    Ok(folds)
 }

@@ -4,7 +4,7 @@ use Rattle.std.specs.List.{AllByRecursion}
 use Rattle.gv_logic.specs.declared.gates.Op.{Op}
 use Rattle.gv_logic.specs.Circuits.{Gate}
 use Rattle.gv_logic.specs.Bytes.{number_bytes, numbers_bytes, op_byte, gate_bytes}
-use Rattle.gv_logic.specs.Reading.{IsFit}
+use Rattle.gv_logic.specs.Cursor.{IsFit}
 use Rattle.gv_logic.proofs.Cancel.{number_long, number_same}
 
 pub gate_tail : (op : Op) (after : List ℕ) (g : Gate) (rest : List ℕ) → op_byte op ∷ after ≡ gate_bytes g ++ rest

@@ -5,7 +5,7 @@ use Rattle.gv_logic.specs.declared.gates.Op.{Op}
 use Rattle.gv_logic.specs.declared.gates.Op.TheVariants.{And, Or}
 use Rattle.gv_logic.specs.Circuits.{Gate, AreEarlier, operand_count}
 use Rattle.gv_logic.specs.Bytes.{number_bytes, numbers_bytes, op_byte, gate_bytes, gates_bytes}
-use Rattle.gv_logic.specs.Reading.{IsFit}
+use Rattle.gv_logic.specs.Cursor.{IsFit}
 use Rattle.gv_logic.proofs.Cancel.{number_same, numbers_same, cons_same, all_weak}
 use Rattle.gv_logic.proofs.Drafts.{count_append, earlier_more}
 

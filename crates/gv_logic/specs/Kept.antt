@@ -22,9 +22,6 @@ pub record IsOpen (set : List ℕ) (cs : List (List ℕ)) : Type 0 where
   pub off : AllOff on set
   pub quiet : AllQuiet on cs
 
-abbrev pub Clashes : List ℕ → List (List ℕ) → Type 0
-Clashes set cs = IsOpen set cs → ⊥
-
 -- each member of the first is one of the second
 abbrev pub IsWithin : List ℕ → List ℕ → Type 0
 IsWithin xs ys = AllByRecursion (λ i. Has i ys) xs

@@ -1,6 +1,7 @@
 pub mod Backed
 pub mod Bytes
 pub mod Circuits
+pub mod Cursor
 pub mod Encoding
 pub mod Formulas
 pub mod Kept

@@ -11,11 +11,11 @@
 mod bits;
 mod bytes;
 mod clause;
+mod cursor;
 mod evaluate;
 mod gates;
-mod law;
+mod laws;
 mod lit;
-mod reader;
 mod reading;
 #[cfg(test)]
 mod tests;
@@ -25,6 +25,6 @@ pub use bytes::gate_bytes;
 pub use clause::{Clause, Clauses};
 pub use evaluate::{value, values};
 pub use gates::{GateList, Gates, Op};
-pub use law::circuit_law;
+pub use laws::circuit_law;
 pub use lit::{Lit, Lits, is_on};
 pub use reading::read_gates;

@@ -3,7 +3,7 @@
 ghost use Rattle.std.specs.Prelude.{IfOk};
 ghost use Rattle.gv_logic.specs.Reading.{Reads};
 
-use crate::reader::Reader;
+use crate::cursor::Reader;
 use crate::{Gates, Lit};
 use gv_base::NoMemory;
 use std::alloc::Global;

@@ -2,7 +2,7 @@
 use Rattle.std.proofs.Common.{◌≡◌, ◌↔◌, ℕ, Bool, true, List, map, sym, ◌∙◌}
 use Rattle.std.proofs.lemmas.List.{length-map}
 use Rattle.gv_expr.specs.Dep.{Dep}
-use Rattle.gv_expr.specs.Req.{Req}
+use Rattle.gv_expr.specs.Required.{Req}
 use Rattle.gv_entry.specs.Allowed.{IsFit, Parent}
 use Rattle.gv_entry.specs.Laws.{AllowedLaw, FailingLaw}
 use Rattle.gv_entry.specs.Queries.{class_flags, required_flags}

@@ -1,8 +1,8 @@
 -- Values of the definitions on worked examples.
 use Rattle.std.specs.Prelude.{◌≡◌, ℕ, Bool, true, false, List, [], ◌∷◌, ◌++◌, Some, Option, option_map, map, codes, refl}
-use Rattle.gv_atom.specs.AtomRead.{read_atom}
+use Rattle.gv_atom.specs.Reading.{read_atom}
 use Rattle.gv_expr.specs.DepRead.{read_dep}
-use Rattle.gv_expr.specs.ReqRead.{read_required}
+use Rattle.gv_expr.specs.RequiredRead.{read_required}
 use Rattle.gv_facts.specs.declared.kinds.Eapi.{Eapi}
 use Rattle.gv_facts.specs.declared.kinds.Eapi.TheVariants.{Six, Seven, Eight}
 use Rattle.gv_facts.specs.declared.kinds.Level.TheVariants as levels

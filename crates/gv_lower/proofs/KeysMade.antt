@@ -9,8 +9,8 @@ use Rattle.std.proofs.lemmas.Bool.{false≢true}
 use Rattle.gv_atom.specs.declared.atom.Atom.{Atom}
 use Rattle.gv_atom.specs.declared.items.UseItem.{UseItem}
 use Rattle.gv_expr.specs.Dep.{Dep, deps}
-use Rattle.gv_expr.specs.Mentioned.{dep_mentions, req_mentions, wanted_atoms}
-use Rattle.gv_expr.specs.Req.{Req, reqs}
+use Rattle.gv_expr.specs.Mentions.{dep_mentions, req_mentions, wanted_atoms}
+use Rattle.gv_expr.specs.Required.{Req, reqs}
 use Rattle.gv_facts.specs.Places.{is_pkg_of, places_from, places_of}
 use Rattle.gv_facts.specs.States.{state}
 use Rattle.gv_facts.specs.Visible.{matches_pkg, visible}

@@ -5,10 +5,10 @@ use Rattle.std.proofs.Math.Nat.{mul-suc, mul-zero}
 use Rattle.std.proofs.lemmas.List.{length-map}
 use Rattle.std.proofs.lemmas.List.Sums.{sum_by-cons}
 use Rattle.std.specs.Str.{bytes_eq}
-use Rattle.gv_atom.specs.AtomMatch.{slot_holds, version_holds}
+use Rattle.gv_atom.specs.Matching.{slot_holds, version_holds}
 use Rattle.gv_atom.specs.declared.atom.Atom.{Atom}
 use Rattle.gv_expr.specs.Dep.{Deps}
-use Rattle.gv_expr.specs.Mentioned.{wanted_atoms}
+use Rattle.gv_expr.specs.Mentions.{wanted_atoms}
 use Rattle.gv_entry.specs.Allowed.{Parent}
 use Rattle.gv_facts.specs.Places.{is_pkg_of}
 use Rattle.gv_facts.specs.Visible.{matches_pkg, visible}

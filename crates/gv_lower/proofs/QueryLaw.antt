@@ -3,7 +3,7 @@ use Rattle.std.proofs.Common.{◌≡◌, ℕ, suc, ◌+◌, ◌*◌, ◌<◌, �
 use Rattle.std.proofs.Math.Path.{fun_ext}
 use Rattle.std.specs.Str.{bytes_eq}
 use Rattle.gv_expr.specs.Dep.{Dep, deps}
-use Rattle.gv_expr.specs.Req.{Req, reqs}
+use Rattle.gv_expr.specs.Required.{Req, reqs}
 use Rattle.gv_facts.specs.AtomMet.{atom_met}
 use Rattle.gv_entry.specs.Allowed.{Parent, assignment, bit_or, class_holds, is_allowed, is_failing, is_forced, parent_state, required_holds}
 use Rattle.gv_entry.specs.Holds.{deps_hold, empty_holds, reqs_hold}

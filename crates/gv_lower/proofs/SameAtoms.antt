@@ -11,8 +11,8 @@ use Rattle.gv_atom.specs.declared.atom.Block.TheVariants.{No}
 use Rattle.gv_atom.specs.declared.items.UseItem.{UseItem}
 use Rattle.gv_atom.specs.declared.items.Ask.{Ask}
 use Rattle.gv_atom.specs.declared.items.Ask.TheVariants as asks
-use Rattle.gv_atom.specs.UseItems.{asks_parent, is_blocker}
-use Rattle.gv_expr.specs.Mentioned.{item_mentions}
+use Rattle.gv_atom.specs.Items.{asks_parent, is_blocker}
+use Rattle.gv_expr.specs.Mentions.{item_mentions}
 use Rattle.gv_facts.specs.States.{state}
 use Rattle.gv_facts.specs.declared.kinds.FlagState.{FlagState}
 use Rattle.gv_facts.specs.declared.pkg.Pkg.{Pkg}

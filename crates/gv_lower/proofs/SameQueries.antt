@@ -6,9 +6,9 @@ use Rattle.std.proofs.lemmas.List.{length-map, map-append}
 use Rattle.std.proofs.lemmas.List.Sums.{sum_by-cons}
 use Rattle.gv_expr.specs.Dep.{Dep, deps}
 use Rattle.gv_expr.specs.DepGrammar.{dep_tokens}
-use Rattle.gv_expr.specs.Mentioned.{dep_mentions, req_mentions, wanted_atoms}
-use Rattle.gv_expr.specs.Req.{Req, reqs}
-use Rattle.gv_expr.specs.ReqGrammar.{req_tokens}
+use Rattle.gv_expr.specs.Mentions.{dep_mentions, req_mentions, wanted_atoms}
+use Rattle.gv_expr.specs.Required.{Req, reqs}
+use Rattle.gv_expr.specs.RequiredGrammar.{req_tokens}
 use Rattle.gv_entry.specs.Allowed.{Parent, parent_state}
 use Rattle.gv_entry.specs.Holds.{empty_holds}
 use Rattle.gv_entry.specs.Queries.{class_flags, required_flags}

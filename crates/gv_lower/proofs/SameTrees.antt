@@ -5,12 +5,12 @@ use Rattle.std.specs.List.{AllByRecursion}
 use Rattle.gv_atom.specs.declared.atom.Atom.{Atom}
 use Rattle.gv_atom.specs.declared.atom.Block.{Block}
 use Rattle.gv_atom.specs.declared.atom.Block.TheVariants.{No, Weak, Strong}
-use Rattle.gv_atom.specs.UseItems.{is_blocker}
+use Rattle.gv_atom.specs.Items.{is_blocker}
 use Rattle.gv_expr.specs.Dep as dep
 use Rattle.gv_expr.specs.Dep.{Dep, Deps}
-use Rattle.gv_expr.specs.Mentioned.{dep_mentions, item_mentions, req_mentions, wanted_atoms, with_atom}
-use Rattle.gv_expr.specs.Req as req
-use Rattle.gv_expr.specs.Req.{Req, Reqs}
+use Rattle.gv_expr.specs.Mentions.{dep_mentions, item_mentions, req_mentions, wanted_atoms, with_atom}
+use Rattle.gv_expr.specs.Required as req
+use Rattle.gv_expr.specs.Required.{Req, Reqs}
 use Rattle.gv_logic.specs.Literals.{opposite}
 use Rattle.gv_lower.specs.Plans.{Plan, built_on, given}
 use Rattle.gv_lower.specs.Groups.{all_of, conditional, most_of, one_of, some_of}

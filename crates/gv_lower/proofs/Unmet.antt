@@ -1,8 +1,8 @@
 -- The conditions of a group's conditionals, one by one.
 use Rattle.std.proofs.Common.{◌≡◌, ℕ, suc, ◌+◌, ◌<◌, Bool, List, [], ◌∷◌, ◌++◌, length, drop, drop-cons, get_or, add-one, sym, ap, ◌∙◌, append_assoc, Option, Some, None}
 use Rattle.std.specs.Prelude.{option_map}
-use Rattle.gv_expr.specs.Req.{Req, reqs}
-use Rattle.gv_expr.specs.ReqView.{req_of, view_of}
+use Rattle.gv_expr.specs.Required.{Req, reqs}
+use Rattle.gv_expr.specs.RequiredView.{req_of, view_of}
 use Rattle.gv_expr.specs.declared.required.UseTree.{UseTree}
 use Rattle.gv_expr.specs.declared.required.UseTree.TheVariants.{If}
 use Rattle.gv_logic.specs.Literals.{opposite}

@@ -5,7 +5,7 @@ use Rattle.std.proofs.Math.Bool.{and_comm}
 use Rattle.gv_atom.specs.declared.atom.Atom.{Atom}
 use Rattle.gv_atom.specs.declared.atom.Block.TheVariants.{No}
 use Rattle.gv_atom.specs.declared.items.UseItem.{UseItem}
-use Rattle.gv_atom.specs.UseItems.{is_blocker}
+use Rattle.gv_atom.specs.Items.{is_blocker}
 use Rattle.gv_facts.specs.declared.kinds.FlagState.{FlagState}
 use Rattle.gv_facts.specs.declared.kinds.Level.{Level}
 use Rattle.gv_facts.specs.declared.pkg.Pkg.{Pkg}
@@ -23,8 +23,8 @@ use Rattle.gv_lower.specs.Groups.{all_of}
 use Rattle.gv_lower.specs.Plans.{built_on, gate_over, given}
 use Rattle.gv_lower.specs.TreeGates.{Base}
 use Rattle.gv_lower.specs.declared.asks.FlagAsks.{FlagAsks}
-use Rattle.gv_visible.specs.Shown.{shows}
-use Rattle.gv_visible.specs.Told.{Candidates, level_of, pkgs_of, profile_of}
+use Rattle.gv_visible.specs.VisiblePkgs.{shows}
+use Rattle.gv_visible.specs.Candidates.{Candidates, level_of, pkgs_of, profile_of}
 
 map_twice : {A B C : Type 0} (f : A → B) (g : B → C) (xs : List A) → map g (map f xs) ≡ map (λ x. g (f x)) xs
 map_twice f g [] = refl

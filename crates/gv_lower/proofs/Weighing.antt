@@ -11,12 +11,12 @@ use Rattle.gv_expr.specs.DepGrammar.{dep_tokens}
 use Rattle.gv_expr.specs.DepView as dep_view
 use Rattle.gv_expr.specs.DepView.{dep_of}
 use Rattle.gv_expr.specs.declared.dep.DepTree.{DepTree}
-use Rattle.gv_expr.specs.Mentioned.{wanted_atoms, with_atom}
-use Rattle.gv_expr.specs.Req as req
-use Rattle.gv_expr.specs.Req.{Req, Reqs, reqs}
-use Rattle.gv_expr.specs.ReqGrammar.{req_tokens}
-use Rattle.gv_expr.specs.ReqView as req_view
-use Rattle.gv_expr.specs.ReqView.{req_of}
+use Rattle.gv_expr.specs.Mentions.{wanted_atoms, with_atom}
+use Rattle.gv_expr.specs.Required as req
+use Rattle.gv_expr.specs.Required.{Req, Reqs, reqs}
+use Rattle.gv_expr.specs.RequiredGrammar.{req_tokens}
+use Rattle.gv_expr.specs.RequiredView as req_view
+use Rattle.gv_expr.specs.RequiredView.{req_of}
 use Rattle.gv_expr.specs.declared.required.UseTree.{UseTree}
 use Rattle.gv_expr.specs.declared.token.Token.TheVariants as tokens
 use Rattle.gv_entry.specs.Allowed.{Parent}
@@ -26,8 +26,8 @@ use Rattle.gv_facts.specs.declared.kinds.Level.{Level}
 use Rattle.gv_facts.specs.declared.pkg.Pkg.{Pkg}
 use Rattle.gv_facts.specs.declared.profile.Profile.{Profile}
 use Rattle.gv_facts.specs.Visible.{matches_pkg, visible}
-use Rattle.gv_visible.specs.Shown.{shows}
-use Rattle.gv_visible.specs.Told.{Candidates, level_of, pkgs_of, profile_of}
+use Rattle.gv_visible.specs.VisiblePkgs.{shows}
+use Rattle.gv_visible.specs.Candidates.{Candidates, level_of, pkgs_of, profile_of}
 use Rattle.gv_lower.specs.Around.{parent_of}
 use Rattle.gv_lower.specs.Weights.{capped, class_weight, packages_weight}
 use Rattle.gv_lower.specs.declared.weigh.Counted.{Counted}

@@ -9,9 +9,9 @@ use Rattle.gv_atom.specs.declared.atom.Atom.{Atom}
 use Rattle.gv_lower.specs.Asks.{asks_plan}
 use Rattle.gv_lower.specs.Plans.{Plan, built_on, gate_over}
 use Rattle.gv_lower.specs.declared.asks.FlagAsks.{FlagAsks}
-use Rattle.gv_visible.specs.Shown.{shows}
+use Rattle.gv_visible.specs.VisiblePkgs.{shows}
 use Rattle.gv_entry.specs.Allowed.{Parent}
-use Rattle.gv_visible.specs.Told.{Candidates, level_of, pkgs_of, profile_of}
+use Rattle.gv_visible.specs.Candidates.{Candidates, level_of, pkgs_of, profile_of}
 
 -- the package in the profile, at the level and among the packages of the candidates
 abbrev pub parent_of : {F : Type 0} → Candidates F → Pkg → Parent

@@ -3,8 +3,8 @@ use Rattle.std.specs.Prelude.{◌≡◌, ℕ, List, [], ◌∷◌, ◌++◌, map
 use Rattle.gv_atom.specs.declared.atom.Atom.{Atom}
 use Rattle.gv_atom.specs.declared.items.UseItem.{UseItem}
 use Rattle.gv_expr.specs.Dep.{Dep, deps}
-use Rattle.gv_expr.specs.Mentioned.{dep_mentions, req_mentions, wanted_atoms}
-use Rattle.gv_expr.specs.Req.{Req, reqs}
+use Rattle.gv_expr.specs.Mentions.{dep_mentions, req_mentions, wanted_atoms}
+use Rattle.gv_expr.specs.Required.{Req, reqs}
 use Rattle.gv_facts.specs.States.{state}
 use Rattle.gv_facts.specs.declared.kinds.FlagState.{FlagState}
 use Rattle.gv_facts.specs.declared.kinds.FlagState.TheVariants.{Absent, Off, On, Free}

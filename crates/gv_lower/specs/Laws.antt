@@ -1,7 +1,7 @@
 -- What makes the gates of queries right.
 use Rattle.std.specs.Prelude.{◌≡◌, ◌↔◌, ℕ, ◌+◌, Bool, true, List, length, map}
 use Rattle.gv_expr.specs.Dep.{Dep}
-use Rattle.gv_expr.specs.Req.{Req}
+use Rattle.gv_expr.specs.Required.{Req}
 use Rattle.gv_entry.specs.Allowed.{Allowed, Failing, Parent, item_holds}
 use Rattle.gv_logic.specs.Circuits.{Circuit, at, operand_count, value, values}
 use Rattle.gv_logic.specs.Literals.{lit_true}

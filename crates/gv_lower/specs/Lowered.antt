@@ -1,7 +1,7 @@
 -- What lowering answers.
 use Rattle.std.specs.Prelude.{◌≡◌, ℕ, ◌<◌, ◌≤◌, List, [], length, Result, Ok, Err}
 use Rattle.gv_expr.specs.Dep.{Dep}
-use Rattle.gv_expr.specs.Req.{Req}
+use Rattle.gv_expr.specs.Required.{Req}
 use Rattle.gv_entry.specs.Allowed.{Parent}
 use Rattle.gv_entry.specs.Weight.{weight}
 use Rattle.gv_entry.specs.Queries.{class_flags, required_flags}

@@ -2,7 +2,7 @@
 use Rattle.std.specs.Prelude.{ℕ, ◌+◌, ◌*◌, false, if◌then◌else◌, List, [], ◌∷◌, ◌++◌, length}
 use Rattle.std.specs.Str.{bytes_eq}
 use Rattle.gv_expr.specs.Dep.{Dep, deps}
-use Rattle.gv_expr.specs.Req.{Req, reqs}
+use Rattle.gv_expr.specs.Required.{Req, reqs}
 use Rattle.gv_entry.specs.Allowed.{Parent, parent_state, is_forced}
 use Rattle.gv_entry.specs.Holds.{empty_holds}
 use Rattle.gv_logic.specs.declared.gates.Op.TheVariants.{And, Or}

@@ -6,8 +6,8 @@ use Rattle.gv_atom.specs.declared.atom.Atom.{Atom}
 use Rattle.gv_atom.specs.declared.items.UseItem.{UseItem}
 use Rattle.gv_expr.specs.Dep.{Dep}
 use Rattle.gv_expr.specs.DepStored.{deps_code}
-use Rattle.gv_expr.specs.Req.{Req}
-use Rattle.gv_expr.specs.ReqStored.{reqs_code}
+use Rattle.gv_expr.specs.Required.{Req}
+use Rattle.gv_expr.specs.RequiredStored.{reqs_code}
 use Rattle.gv_facts.specs.contracts.pkg.Pkg as pkg
 use Rattle.gv_facts.specs.contracts.profile.Profile as profile
 use Rattle.gv_facts.specs.declared.pkg.Pkg.{Pkg}

@@ -3,7 +3,7 @@ use Rattle.std.specs.Prelude.{ℕ, ◌+◌, ◌-◌, ◌^◌, min, length, filte
 use Rattle.gv_atom.specs.declared.atom.Atom.{Atom}
 use Rattle.gv_expr.specs.Dep.{Deps}
 use Rattle.gv_expr.specs.DepGrammar.{dep_tokens}
-use Rattle.gv_expr.specs.Mentioned.{wanted_atoms}
+use Rattle.gv_expr.specs.Mentions.{wanted_atoms}
 use Rattle.gv_facts.specs.Places.{is_pkg_of}
 use Rattle.gv_facts.specs.declared.pkg.Pkg.{Pkg}
 use Rattle.gv_entry.specs.Allowed.{Parent}

@@ -30,6 +30,48 @@ pub(crate) struct FlagAsks {
     pub(crate) missing: Lits,
 }
 
+// Which of the three lists.
+#[derive(Clone, Copy)]
+enum Side {
+    On,
+    Off,
+    Missing,
+}
+
+// One for each flag, by the first item that names it.
+pub(crate) fn asks_of(
+    alloc: Global,
+    items: &[UseItem],
+    parent: &ParentFlags<'_>,
+) -> Result<Vec<FlagAsks>, NoMemory>
+    ensures { IfOk result (λ asks. asks.items ≡ asks_of (base_at parent.now) items.now) }
+{
+    let chains = Chains::of(alloc, items)?;
+    let mut asks = Vec::new(alloc);
+    for (i, item) in items.iter().enumerate() {
+        if !chains.is_first(i, &item.flag) {
+            continue;
+        }
+        let ask = ask_at(alloc, &chains, i, &item.flag, parent)?;
+        asks.push(ask)?;
+    }
+    Ok(asks)
+}
+
+// Whether the flags of the package may be set so that all have what is asked.
+pub(crate) fn draw_asks(
+    sketch: &mut Sketch,
+    asks: &[FlagAsks],
+    pkg: &Pkg,
+    profile: &Profile,
+    level: Level,
+) -> Result<Lit, NoMemory>
+    ensures { IfOk result (λ lit. Drew (asks_plan (state pkg.now profile.now level) asks.now) sketch.old sketch.new lit) }
+{
+    let lits = draw_each_ask(sketch, asks, pkg, profile, level)?;
+    gate_over(sketch, Op::And, lits)
+}
+
 fn add_on(lits: &mut Lits, item: &UseItem, parent: &ParentFlags<'_>) -> Result<(), NoMemory>
     ensures { OnOk result (lits.new ≡ lits.old ++ item_on (base_at parent.now) item.now) }
 {
@@ -63,14 +105,6 @@ fn add_missing(lits: &mut Lits, item: &UseItem, parent: &ParentFlags<'_>) -> Res
             add_off(lits, item, parent)
         }
     }
-}
-
-// Which of the three lists.
-#[derive(Clone, Copy)]
-enum Side {
-    On,
-    Off,
-    Missing,
 }
 
 fn add_side(
@@ -133,26 +167,6 @@ fn ask_at(
     })
 }
 
-// One for each flag, by the first item that names it.
-pub(crate) fn asks_of(
-    alloc: Global,
-    items: &[UseItem],
-    parent: &ParentFlags<'_>,
-) -> Result<Vec<FlagAsks>, NoMemory>
-    ensures { IfOk result (λ asks. asks.items ≡ asks_of (base_at parent.now) items.now) }
-{
-    let chains = Chains::of(alloc, items)?;
-    let mut asks = Vec::new(alloc);
-    for (i, item) in items.iter().enumerate() {
-        if !chains.is_first(i, &item.flag) {
-            continue;
-        }
-        let ask = ask_at(alloc, &chains, i, &item.flag, parent)?;
-        asks.push(ask)?;
-    }
-    Ok(asks)
-}
-
 fn none_of(sketch: &mut Sketch, lits: &Lits) -> Result<Lit, NoMemory>
     ensures { IfOk result (λ lit. Drew (none_of lits.now) sketch.old sketch.new lit) }
 {
@@ -205,18 +219,4 @@ fn draw_each_ask(
         lits.add(lit)?;
     }
     Ok(lits)
-}
-
-// Whether the flags of the package may be set so that all have what is asked.
-pub(crate) fn draw_asks(
-    sketch: &mut Sketch,
-    asks: &[FlagAsks],
-    pkg: &Pkg,
-    profile: &Profile,
-    level: Level,
-) -> Result<Lit, NoMemory>
-    ensures { IfOk result (λ lit. Drew (asks_plan (state pkg.now profile.now level) asks.now) sketch.old sketch.new lit) }
-{
-    let lits = draw_each_ask(sketch, asks, pkg, profile, level)?;
-    gate_over(sketch, Op::And, lits)
 }

@@ -10,9 +10,9 @@ ghost use Rattle.gv_lower.specs.Asks.{asks_plan};
 ghost use Rattle.gv_lower.specs.AtomGates.{atom_plan};
 ghost use Rattle.gv_lower.specs.Drawn.{Drew, DrewEach, DrewIf};
 ghost use Rattle.gv_lower.specs.ParentFlags.{base_at};
-ghost use Rattle.gv_visible.specs.Shown.{shown_at, shows};
-ghost use Rattle.gv_visible.specs.Tells.{AnswersVisible};
-ghost use Rattle.gv_visible.specs.Told.{level_of, pkgs_of, profile_of, test_of};
+ghost use Rattle.gv_visible.specs.VisiblePkgs.{shown_at, shows};
+ghost use Rattle.gv_visible.specs.StoredTest.{AnswersVisible};
+ghost use Rattle.gv_visible.specs.Candidates.{level_of, pkgs_of, profile_of, test_of};
 
 use crate::asks::{FlagAsks, asks_of, draw_asks};
 use crate::groups::gate_over;
@@ -23,6 +23,25 @@ use gv_base::NoMemory;
 use gv_facts::Pkg;
 use gv_logic::{Lit, Lits, Op};
 use gv_visible::Candidates;
+
+// A blocker counts as met.
+pub(crate) fn draw_atom<F: Fn(&Pkg) -> bool>(
+    sketch: &mut Sketch,
+    atom: &Atom,
+    parent: &ParentFlags<'_>,
+    candidates: &Candidates<'_, F>,
+) -> Result<Lit, NoMemory>
+    requires { AnswersVisible (F.pre (test_of candidates.now)) (F.post (test_of candidates.now)) (profile_of candidates.now) (level_of candidates.now) }
+    ensures { IfOk result (λ lit. Drew (atom_plan (parent_of candidates.now parent.now.pkg.now) (base_at parent.now) atom.now) sketch.old sketch.new lit) }
+{
+    match atom.block {
+        Block::Weak | Block::Strong => Ok(parent.on),
+        Block::No => {
+            let asks = asks_of(sketch.alloc, atom.items.items(), parent)?;
+            draw_wanted(sketch, &asks, atom, candidates)
+        }
+    }
+}
 
 // For the package at this place, where it is visible and the atom matches it.
 fn draw_shown<F: Fn(&Pkg) -> bool>(
@@ -76,23 +95,4 @@ fn draw_wanted<F: Fn(&Pkg) -> bool>(
 {
     let lits = draw_packages(sketch, asks, atom, candidates)?;
     gate_over(sketch, Op::Or, lits)
-}
-
-// A blocker counts as met.
-pub(crate) fn draw_atom<F: Fn(&Pkg) -> bool>(
-    sketch: &mut Sketch,
-    atom: &Atom,
-    parent: &ParentFlags<'_>,
-    candidates: &Candidates<'_, F>,
-) -> Result<Lit, NoMemory>
-    requires { AnswersVisible (F.pre (test_of candidates.now)) (F.post (test_of candidates.now)) (profile_of candidates.now) (level_of candidates.now) }
-    ensures { IfOk result (λ lit. Drew (atom_plan (parent_of candidates.now parent.now.pkg.now) (base_at parent.now) atom.now) sketch.old sketch.new lit) }
-{
-    match atom.block {
-        Block::Weak | Block::Strong => Ok(parent.on),
-        Block::No => {
-            let asks = asks_of(sketch.alloc, atom.items.items(), parent)?;
-            draw_wanted(sketch, &asks, atom, candidates)
-        }
-    }
 }

@@ -10,8 +10,8 @@ ghost use Rattle.gv_lower.specs.Groups.{all_of};
 ghost use Rattle.gv_lower.specs.ParentFlags.{base_at};
 ghost use Rattle.gv_lower.specs.Plans.{built_on};
 ghost use Rattle.gv_lower.specs.TreeGates.{dep_plan, dep_plans, dep_unmet, if_met};
-ghost use Rattle.gv_visible.specs.Tells.{AnswersVisible};
-ghost use Rattle.gv_visible.specs.Told.{level_of, profile_of, test_of};
+ghost use Rattle.gv_visible.specs.StoredTest.{AnswersVisible};
+ghost use Rattle.gv_visible.specs.Candidates.{level_of, profile_of, test_of};
 
 use crate::atoms::draw_atom;
 use crate::groups::{conditional, gate_over, some_of};
@@ -23,6 +23,27 @@ use gv_facts::Pkg;
 use gv_logic::{Lit, Lits, Op};
 use gv_visible::Candidates;
 use std::alloc::Global;
+
+/// Each of them, as members of a `||` or elsewhere.
+#[cycle(class)]
+pub(crate) fn draw_each<F: Fn(&Pkg) -> bool>(
+    sketch: &mut Sketch,
+    items: &DepExpr,
+    parent: &ParentFlags<'_>,
+    candidates: &Candidates<'_, F>,
+    empty: bool,
+    members: bool,
+) -> Result<Lits, NoMemory>
+    requires { AnswersVisible (F.pre (test_of candidates.now)) (F.post (test_of candidates.now)) (profile_of candidates.now) (level_of candidates.now) }
+    ensures { IfOk result (λ lits. DrewEach (dep_plans (deps items.now) (atom_plan (parent_of candidates.now parent.now.pkg.now) (base_at parent.now)) (base_at parent.now) empty members) sketch.old sketch.new lits) }
+{
+    let mut lits = Lits::new(sketch.alloc);
+    for tree in &items.items {
+        let lit = draw_tree(sketch, tree, parent, candidates, empty, members)?;
+        lits.add(lit)?;
+    }
+    Ok(lits)
+}
 
 // The opposites of the conditions, where all are conditionals.
 fn unmet(alloc: Global, items: &DepExpr, parent: &ParentFlags<'_>) -> Result<Option<Lits>, NoMemory>
@@ -101,25 +122,4 @@ fn draw_all<F: Fn(&Pkg) -> bool>(
 {
     let lits = draw_each(sketch, items, parent, candidates, empty, false)?;
     gate_over(sketch, Op::And, lits)
-}
-
-/// Each of them, as members of a `||` or elsewhere.
-#[cycle(class)]
-pub(crate) fn draw_each<F: Fn(&Pkg) -> bool>(
-    sketch: &mut Sketch,
-    items: &DepExpr,
-    parent: &ParentFlags<'_>,
-    candidates: &Candidates<'_, F>,
-    empty: bool,
-    members: bool,
-) -> Result<Lits, NoMemory>
-    requires { AnswersVisible (F.pre (test_of candidates.now)) (F.post (test_of candidates.now)) (profile_of candidates.now) (level_of candidates.now) }
-    ensures { IfOk result (λ lits. DrewEach (dep_plans (deps items.now) (atom_plan (parent_of candidates.now parent.now.pkg.now) (base_at parent.now)) (base_at parent.now) empty members) sketch.old sketch.new lits) }
-{
-    let mut lits = Lits::new(sketch.alloc);
-    for tree in &items.items {
-        let lit = draw_tree(sketch, tree, parent, candidates, empty, members)?;
-        lits.add(lit)?;
-    }
-    Ok(lits)
 }

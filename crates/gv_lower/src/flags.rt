@@ -2,8 +2,8 @@
 ghost use Rattle.std.specs.Prelude.{◌≡◌, ◌++◌, filter, IfOk, OnOk};
 ghost use Rattle.gv_base.specs.Order.{IsAscending, in_order};
 ghost use Rattle.gv_expr.specs.Dep.{deps};
-ghost use Rattle.gv_expr.specs.Mentioned.{dep_mentions, req_mentions};
-ghost use Rattle.gv_expr.specs.Req.{reqs};
+ghost use Rattle.gv_expr.specs.Mentions.{dep_mentions, req_mentions};
+ghost use Rattle.gv_expr.specs.Required.{reqs};
 ghost use Rattle.gv_entry.specs.Allowed.{is_free};
 ghost use Rattle.gv_facts.specs.States.{state};
 
@@ -12,6 +12,41 @@ use gv_expr::{DepExpr, UseExpr, mentioned_dep, mentioned_required};
 use gv_facts::{FlagState, Level, Pkg, Profile};
 use gv_usestate::state;
 use std::alloc::Global;
+
+// Of REQUIRED_USE alone.
+pub(crate) fn required_flags(
+    alloc: Global,
+    pkg: &Pkg,
+    profile: &Profile,
+    level: Level,
+    required: &UseExpr,
+) -> Result<Texts, NoMemory>
+    ensures flags { IfOk result (λ flags. flags ≡ filter (λ flag. is_free (state pkg.now profile.now level flag)) (in_order (req_mentions (reqs required.now)))) }
+    ensures ascend { IfOk result IsAscending }
+{
+    in_order_law();
+    let mentioned = mentioned_required(alloc, required)?;
+    let flags = free_flags(alloc, pkg, profile, level, &mentioned)?;
+    Ok(flags)
+}
+
+// Of REQUIRED_USE and a class.
+pub(crate) fn class_flags(
+    alloc: Global,
+    pkg: &Pkg,
+    profile: &Profile,
+    level: Level,
+    required: &UseExpr,
+    class: &DepExpr,
+) -> Result<Texts, NoMemory>
+    ensures flags { IfOk result (λ flags. flags ≡ filter (λ flag. is_free (state pkg.now profile.now level flag)) (in_order (req_mentions (reqs required.now) ++ dep_mentions (deps class.now)))) }
+    ensures ascend { IfOk result IsAscending }
+{
+    in_order_law();
+    let mentioned = mentioned(alloc, required, class)?;
+    let flags = free_flags(alloc, pkg, profile, level, &mentioned)?;
+    Ok(flags)
+}
 
 fn is_free(pkg: &Pkg, profile: &Profile, level: Level, flag: &Text) -> bool
     ensures { result ≡ is_free (state pkg.now profile.now level flag.now) }
@@ -55,39 +90,4 @@ fn mentioned(alloc: Global, required: &UseExpr, class: &DepExpr) -> Result<Texts
     let others = mentioned_dep(alloc, class)?;
     add_all(alloc, &mut flags, &others)?;
     flags.in_order(alloc)
-}
-
-// Of REQUIRED_USE alone.
-pub(crate) fn required_flags(
-    alloc: Global,
-    pkg: &Pkg,
-    profile: &Profile,
-    level: Level,
-    required: &UseExpr,
-) -> Result<Texts, NoMemory>
-    ensures flags { IfOk result (λ flags. flags ≡ filter (λ flag. is_free (state pkg.now profile.now level flag)) (in_order (req_mentions (reqs required.now)))) }
-    ensures ascend { IfOk result IsAscending }
-{
-    in_order_law();
-    let mentioned = mentioned_required(alloc, required)?;
-    let flags = free_flags(alloc, pkg, profile, level, &mentioned)?;
-    Ok(flags)
-}
-
-// Of REQUIRED_USE and a class.
-pub(crate) fn class_flags(
-    alloc: Global,
-    pkg: &Pkg,
-    profile: &Profile,
-    level: Level,
-    required: &UseExpr,
-    class: &DepExpr,
-) -> Result<Texts, NoMemory>
-    ensures flags { IfOk result (λ flags. flags ≡ filter (λ flag. is_free (state pkg.now profile.now level flag)) (in_order (req_mentions (reqs required.now) ++ dep_mentions (deps class.now)))) }
-    ensures ascend { IfOk result IsAscending }
-{
-    in_order_law();
-    let mentioned = mentioned(alloc, required, class)?;
-    let flags = free_flags(alloc, pkg, profile, level, &mentioned)?;
-    Ok(flags)
 }

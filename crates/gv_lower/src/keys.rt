@@ -7,13 +7,13 @@ ghost use Rattle.std.specs.Prelude.{◌≡◌, ◌++◌, ◌∷◌, List, flat_m
 ghost use Rattle.std.specs.List.{AllByRecursion};
 ghost use Rattle.gv_entry.specs.Allowed.{Parent};
 ghost use Rattle.gv_expr.specs.Dep.{Dep};
-ghost use Rattle.gv_expr.specs.Req.{Req};
+ghost use Rattle.gv_expr.specs.Required.{Req};
 ghost use Rattle.gv_facts.specs.States.{state};
 ghost use Rattle.gv_lower.specs.Around.{alone};
 ghost use Rattle.gv_lower.specs.Keys.{HaveSameAllowed, HaveSameFailing, class_key, other_key, own_key, query_key, required_key};
 ghost use Rattle.gv_lower.specs.KeysAround.{AreKnown, IsKnownAt, other_keys, own_keys, place_key, site_key};
 ghost use Rattle.gv_usestate.specs.Kinds.{IsOneOf};
-ghost use Rattle.gv_visible.specs.Shown.{are_visible};
+ghost use Rattle.gv_visible.specs.VisiblePkgs.{are_visible};
 
 use crate::known::KnownFlag;
 use crate::sites::{AtomSite, ClassSites, PlaceSite, RequiredFlags};

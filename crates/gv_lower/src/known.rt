@@ -25,13 +25,6 @@ impl<'a> Model for KnownFlag<'a> {
     ghost view = { λ k. record { flag = k.flag.now; kind = k.kind } };
 }
 
-fn known<'a>(ruled: &RuledFlags<'_>, pkg: &Pkg, flag: &'a [u8]) -> KnownFlag<'a>
-    ensures { result ≡ known_of ruled.now pkg.now flag.now }
-{
-    let kind = ruled.kind(pkg, flag);
-    KnownFlag { flag, kind }
-}
-
 /// These flags of the package.
 pub(crate) fn known_flags<'a>(
     alloc: Global,
@@ -62,4 +55,11 @@ pub(crate) fn known_items<'a>(
         these.push(known(ruled, pkg, item.flag.bytes()))?;
     }
     Ok(these)
+}
+
+fn known<'a>(ruled: &RuledFlags<'_>, pkg: &Pkg, flag: &'a [u8]) -> KnownFlag<'a>
+    ensures { result ≡ known_of ruled.now pkg.now flag.now }
+{
+    let kind = ruled.kind(pkg, flag);
+    KnownFlag { flag, kind }
 }

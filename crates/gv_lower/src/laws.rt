@@ -2,7 +2,7 @@
 //! all packages, profiles, expressions and assignments.
 ghost use Rattle.std.specs.Prelude.{◌≡◌, ℕ, Bool, List, length, ◌+◌, ◌*◌, ◌≤◌, [], map};
 ghost use Rattle.gv_expr.specs.Dep.{Dep};
-ghost use Rattle.gv_expr.specs.Req.{Req};
+ghost use Rattle.gv_expr.specs.Required.{Req};
 ghost use Rattle.gv_entry.specs.Allowed.{IsFit, Parent, assignment, is_allowed, is_failing, item_holds};
 ghost use Rattle.gv_entry.specs.Weight.{weight};
 ghost use Rattle.gv_logic.specs.Circuits.{at, value, values};

@@ -4,12 +4,12 @@ ghost use Rattle.gv_base.specs.Steps.{after};
 ghost use Rattle.gv_base.specs.declared.steps.Kind.TheVariants.{Lower};
 ghost use Rattle.gv_entry.specs.Queries.{class_in};
 ghost use Rattle.gv_expr.specs.Dep.{Dep};
-ghost use Rattle.gv_expr.specs.Req.{Req};
+ghost use Rattle.gv_expr.specs.Required.{Req};
 ghost use Rattle.gv_facts.specs.declared.pkg.Pkg.{Pkg};
 ghost use Rattle.gv_lower.specs.Around.{parent_of};
 ghost use Rattle.gv_lower.specs.Lowered.{LoweredAllowed, LoweredFailing};
-ghost use Rattle.gv_visible.specs.Tells.{AnswersVisible};
-ghost use Rattle.gv_visible.specs.Told.{level_of, pkgs_of, profile_of, test_of};
+ghost use Rattle.gv_visible.specs.StoredTest.{AnswersVisible};
+ghost use Rattle.gv_visible.specs.Candidates.{level_of, pkgs_of, profile_of, test_of};
 
 use crate::lowering::{lower_class, lower_required};
 use crate::query::{LowerFault, Query};
@@ -19,14 +19,6 @@ use gv_facts::{Class, Pkg};
 use gv_visible::Candidates;
 use std::alloc::Global;
 use std::sync::ledger::Ledger;
-
-// The package with this number.
-fn package(pkgs: &[Pkg], number: u32) -> &Pkg
-    requires { number < length pkgs.now }
-    ensures { (pkg : Pkg) → slice_get pkgs.now number ≡ Some pkg → pkg ≡ result.now }
-{
-    &pkgs[number as usize]
-}
 
 /// Whether an assignment of the package's flags is allowed, as gates: they are true exactly where REQUIRED_USE holds. Counts
 /// one more `Lower`, whatever is answered.
@@ -89,4 +81,12 @@ pub fn lower_failing<F: Fn(&Pkg) -> bool, L: Ledger>(
         unreachable!()
     };
     lower_class(alloc, pkg, required, items, candidates)
+}
+
+// The package with this number.
+fn package(pkgs: &[Pkg], number: u32) -> &Pkg
+    requires { number < length pkgs.now }
+    ensures { (pkg : Pkg) → slice_get pkgs.now number ≡ Some pkg → pkg ≡ result.now }
+{
+    &pkgs[number as usize]
 }

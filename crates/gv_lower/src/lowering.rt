@@ -9,8 +9,8 @@ ghost use Rattle.gv_lower.specs.Around.{alone, parent_of};
 ghost use Rattle.gv_lower.specs.Lowered.{IsQuery, Lowered, LoweredAllowed, LoweredFailing};
 ghost use Rattle.gv_entry.specs.Queries.{class_flags, required_flags};
 ghost use Rattle.gv_lower.specs.QueryGates.{allowed_gates, failing_gates, failing_items};
-ghost use Rattle.gv_visible.specs.Tells.{AnswersVisible};
-ghost use Rattle.gv_visible.specs.Told.{level_of, profile_of, test_of};
+ghost use Rattle.gv_visible.specs.StoredTest.{AnswersVisible};
+ghost use Rattle.gv_visible.specs.Candidates.{level_of, profile_of, test_of};
 
 use crate::finish::{begin, finish};
 use crate::flags::{class_flags, required_flags};
@@ -25,6 +25,46 @@ use gv_facts::{Eapi, Level, Pkg, Profile};
 use gv_logic::{Gates, Lit, Lits, Op};
 use gv_visible::Candidates;
 use std::alloc::Global;
+
+pub(crate) fn lower_required(
+    alloc: Global,
+    pkg: &Pkg,
+    profile: &Profile,
+    level: Level,
+    required: &UseExpr,
+) -> Result<Query, LowerFault>
+    ensures { LoweredAllowed (alone pkg.now profile.now level) required.now result }
+{
+    let flags = required_flags(alloc, pkg, profile, level, required)?;
+    match inputs_of(flags) {
+        Ok(inputs) => lower_few(alloc, pkg, profile, level, inputs, required),
+        Err(fault) => Err(fault),
+    }
+}
+
+pub(crate) fn lower_class<F: Fn(&Pkg) -> bool>(
+    alloc: Global,
+    pkg: &Pkg,
+    required: &UseExpr,
+    class: &DepExpr,
+    candidates: &Candidates<'_, F>,
+) -> Result<Query, LowerFault>
+    requires { AnswersVisible (F.pre (test_of candidates.now)) (F.post (test_of candidates.now)) (profile_of candidates.now) (level_of candidates.now) }
+    ensures { LoweredFailing (parent_of candidates.now pkg.now) required.now class.now result }
+{
+    let flags = class_flags(
+        alloc,
+        pkg,
+        candidates.profile(),
+        candidates.level(),
+        required,
+        class,
+    )?;
+    match inputs_of(flags) {
+        Ok(inputs) => lower_few_of(alloc, pkg, inputs, required, class, candidates),
+        Err(fault) => Err(fault),
+    }
+}
 
 // Whether a `||` or `^^` without members counts as met.
 fn empty_holds(eapi: Eapi) -> bool
@@ -135,22 +175,6 @@ fn lower_few(
     }
 }
 
-pub(crate) fn lower_required(
-    alloc: Global,
-    pkg: &Pkg,
-    profile: &Profile,
-    level: Level,
-    required: &UseExpr,
-) -> Result<Query, LowerFault>
-    ensures { LoweredAllowed (alone pkg.now profile.now level) required.now result }
-{
-    let flags = required_flags(alloc, pkg, profile, level, required)?;
-    match inputs_of(flags) {
-        Ok(inputs) => lower_few(alloc, pkg, profile, level, inputs, required),
-        Err(fault) => Err(fault),
-    }
-}
-
 fn failing_query<F: Fn(&Pkg) -> bool>(
     alloc: Global,
     pkg: &Pkg,
@@ -189,30 +213,6 @@ fn lower_few_of<F: Fn(&Pkg) -> bool>(
             let query = failing_query(alloc, pkg, inputs, required, class, candidates)?;
             Ok(query)
         }
-        Err(fault) => Err(fault),
-    }
-}
-
-pub(crate) fn lower_class<F: Fn(&Pkg) -> bool>(
-    alloc: Global,
-    pkg: &Pkg,
-    required: &UseExpr,
-    class: &DepExpr,
-    candidates: &Candidates<'_, F>,
-) -> Result<Query, LowerFault>
-    requires { AnswersVisible (F.pre (test_of candidates.now)) (F.post (test_of candidates.now)) (profile_of candidates.now) (level_of candidates.now) }
-    ensures { LoweredFailing (parent_of candidates.now pkg.now) required.now class.now result }
-{
-    let flags = class_flags(
-        alloc,
-        pkg,
-        candidates.profile(),
-        candidates.level(),
-        required,
-        class,
-    )?;
-    match inputs_of(flags) {
-        Ok(inputs) => lower_few_of(alloc, pkg, inputs, required, class, candidates),
         Err(fault) => Err(fault),
     }
 }

@@ -111,41 +111,6 @@ pub(crate) fn pkgs<R: Abort>(rt: &R, alloc: Global, eapi: Eapi, iuse: &str, othe
     pkgs
 }
 
-fn failing_counted<L: Ledger>(
-    alloc: Global,
-    blank: Blank,
-    pkgs: &Pkgs,
-    profile: &Profile,
-    body: &Body,
-) -> Result<Query, LowerFault>
-    requires name { blank.name ≡ L.name }
-    requires parts { blank.parts ≡ L.parts }
-    requires two { blank.parts ≡ 2 }
-    requires number { 0 < length pkgs.now }
-    requires whole { IsSome body.now.required }
-    requires class { IsSome body.now.rdepend }
-{
-    let mut steps = Steps::<L>::open(blank);
-    failing_among(alloc, pkgs, profile, 0, body, Class::Rdepend, &mut steps)
-}
-
-fn allowed_counted<L: Ledger>(
-    alloc: Global,
-    blank: Blank,
-    pkgs: &Pkgs,
-    profile: &Profile,
-    body: &Body,
-) -> Result<Query, LowerFault>
-    requires name { blank.name ≡ L.name }
-    requires parts { blank.parts ≡ L.parts }
-    requires two { blank.parts ≡ 2 }
-    requires number { 0 < length pkgs.now }
-    requires whole { IsSome body.now.required }
-{
-    let mut steps = Steps::<L>::open(blank);
-    allowed_among(alloc, pkgs, profile, 0, body, &mut steps)
-}
-
 // The query of RDEPEND of the first of the packages.
 pub(crate) fn failing<R: Abort>(
     rt: &R,
@@ -188,4 +153,39 @@ pub(crate) fn value_at<R: Abort>(rt: &R, alloc: Global, query: &Query, bits: &Bi
         return false;
     }
     value(alloc, &query.gates, bits).expect(rt, "memory")
+}
+
+fn failing_counted<L: Ledger>(
+    alloc: Global,
+    blank: Blank,
+    pkgs: &Pkgs,
+    profile: &Profile,
+    body: &Body,
+) -> Result<Query, LowerFault>
+    requires name { blank.name ≡ L.name }
+    requires parts { blank.parts ≡ L.parts }
+    requires two { blank.parts ≡ 2 }
+    requires number { 0 < length pkgs.now }
+    requires whole { IsSome body.now.required }
+    requires class { IsSome body.now.rdepend }
+{
+    let mut steps = Steps::<L>::open(blank);
+    failing_among(alloc, pkgs, profile, 0, body, Class::Rdepend, &mut steps)
+}
+
+fn allowed_counted<L: Ledger>(
+    alloc: Global,
+    blank: Blank,
+    pkgs: &Pkgs,
+    profile: &Profile,
+    body: &Body,
+) -> Result<Query, LowerFault>
+    requires name { blank.name ≡ L.name }
+    requires parts { blank.parts ≡ L.parts }
+    requires two { blank.parts ≡ 2 }
+    requires number { 0 < length pkgs.now }
+    requires whole { IsSome body.now.required }
+{
+    let mut steps = Steps::<L>::open(blank);
+    allowed_among(alloc, pkgs, profile, 0, body, &mut steps)
 }

@@ -3,9 +3,9 @@ ghost use Rattle.std.specs.Prelude.{◌≡◌, ◌++◌, [], ◌∷◌, OnOk};
 ghost use Rattle.gv_atom.specs.declared.atom.Block.TheVariants.{No};
 ghost use Rattle.gv_expr.specs.Dep.{deps};
 ghost use Rattle.gv_expr.specs.DepView.{dep_of};
-ghost use Rattle.gv_expr.specs.Mentioned.{dep_mentions, item_mentions, req_mentions};
-ghost use Rattle.gv_expr.specs.Req.{reqs};
-ghost use Rattle.gv_expr.specs.ReqView.{req_of};
+ghost use Rattle.gv_expr.specs.Mentions.{dep_mentions, item_mentions, req_mentions};
+ghost use Rattle.gv_expr.specs.Required.{reqs};
+ghost use Rattle.gv_expr.specs.RequiredView.{req_of};
 ghost use Rattle.gv_lower.specs.Mentions.{texts_of};
 
 use gv_atom::{Atom, Block, UseItem};

@@ -6,8 +6,8 @@
 ghost use Rattle.std.specs.Prelude.{◌≡◌, ◌++◌, ◌∷◌, [], map, IfOk, OnOk};
 ghost use Rattle.gv_expr.specs.Dep.{deps};
 ghost use Rattle.gv_expr.specs.DepView.{dep_of};
-ghost use Rattle.gv_expr.specs.Mentioned.{dep_mentions, req_mentions, wanted_atoms};
-ghost use Rattle.gv_expr.specs.Req.{reqs};
+ghost use Rattle.gv_expr.specs.Mentions.{dep_mentions, req_mentions, wanted_atoms};
+ghost use Rattle.gv_expr.specs.Required.{reqs};
 ghost use Rattle.gv_lower.specs.Sites.{known_of, matches_at, place_site, site_of};
 
 use crate::known::{KnownFlag, known_flags, known_items};
@@ -32,8 +32,8 @@ pub struct RequiredFlags<'a> {
 
 impl<'a> Model for RequiredFlags<'a> {
     ghost use Rattle.std.specs.Prelude.{◌≡◌, map};
-    ghost use Rattle.gv_expr.specs.Mentioned.{req_mentions};
-    ghost use Rattle.gv_expr.specs.Req.{reqs};
+    ghost use Rattle.gv_expr.specs.Mentions.{req_mentions};
+    ghost use Rattle.gv_expr.specs.Required.{reqs};
     ghost use Rattle.gv_lower.specs.Sites.{RequiredFlags, coded_flags, known_of};
 
     ghost Value = { RequiredFlags };
@@ -131,6 +131,79 @@ impl<'a> AtomSite<'a> {
     }
 }
 
+/// The flags that a class of a package mentions, and for each of its atoms that is no blocker the packages that it matches,
+/// visible or not, each with its flags that the atom's items name; and what is known of all these flags in each of some
+/// profiles.
+#[derive(Drop)]
+pub struct ClassSites<'a> {
+    ruled: &'a RuledFlags<'a>,
+    pkg: &'a Pkg,
+    pkgs: &'a Pkgs,
+    class: &'a DepExpr,
+    flags: Vec<KnownFlag<'a>>,
+    atoms: Vec<AtomSite<'a>>,
+}
+
+impl<'a> Model for ClassSites<'a> {
+    ghost use Rattle.std.specs.Prelude.{◌≡◌, map};
+    ghost use Rattle.gv_expr.specs.Dep.{deps};
+    ghost use Rattle.gv_expr.specs.Mentions.{dep_mentions, wanted_atoms};
+    ghost use Rattle.gv_lower.specs.Sites.{ClassSites, coded_sites, known_of, site_of};
+
+    ghost Value = { ClassSites };
+
+    ghost coded = { coded_sites };
+
+    ghost view = { λ s. record { profiles = s.ruled.now; of = s.pkg.now; pkgs = s.pkgs.now; class = s.class.now } };
+
+    ghost invariant = { λ s. (s.flags.items ≡ map (known_of s.ruled.now s.pkg.now) (dep_mentions (deps s.class.now))) × (s.atoms.items ≡ map (site_of s.ruled.now s.pkgs.now) (wanted_atoms (deps s.class.now))) };
+}
+
+impl<'a> ClassSites<'a> {
+    /// Those of this class of the package among the packages of the index.
+    pub fn new(
+        alloc: Global,
+        ruled: &'a RuledFlags<'a>,
+        pkg: &'a Pkg,
+        index: &PkgIndex<'a>,
+        class: &'a DepExpr,
+    ) -> Result<ClassSites<'a>, NoMemory>
+        ensures { IfOk result (λ sites. sites ≡ record { profiles = ruled.now; of = pkg.now; pkgs = index.now; class = class.now }) }
+    {
+        let mut mentions = Mentions::new(alloc);
+        mentions.add_class(class)?;
+        let flags = known_flags(alloc, ruled, pkg, mentions.items())?;
+        let mut atoms = Vec::new(alloc);
+        add_sites(alloc, class, ruled, index, &mut atoms)?;
+        Ok(ClassSites {
+            ruled,
+            pkg,
+            pkgs: index.pkgs(),
+            class,
+            flags,
+            atoms,
+        })
+    }
+
+    pub(crate) fn pkg(&self) -> &'a Pkg
+        ensures { result.now ≡ self.now.of }
+    {
+        self.pkg
+    }
+
+    pub(crate) fn flags(&self) -> &[KnownFlag<'a>]
+        ensures { result.now ≡ map (known_of self.now.profiles self.now.of) (dep_mentions (deps self.now.class)) }
+    {
+        &self.flags
+    }
+
+    pub(crate) fn atoms(&self) -> &[AtomSite<'a>]
+        ensures { result.now ≡ map (site_of self.now.profiles self.now.pkgs) (wanted_atoms (deps self.now.class)) }
+    {
+        &self.atoms
+    }
+}
+
 // Whether the atom matches the package at this place.
 fn matches_at(atom: &Atom, pkgs: &[Pkg], place: u32) -> bool
     ensures { result ≡ matches_at atom.now pkgs.now place }
@@ -221,78 +294,5 @@ fn add_sites_of<'a>(
             add_sites(alloc, items, ruled, index, atoms)
         }
         DepTree::If { items, .. } => add_sites(alloc, items, ruled, index, atoms),
-    }
-}
-
-/// The flags that a class of a package mentions, and for each of its atoms that is no blocker the packages that it matches,
-/// visible or not, each with its flags that the atom's items name; and what is known of all these flags in each of some
-/// profiles.
-#[derive(Drop)]
-pub struct ClassSites<'a> {
-    ruled: &'a RuledFlags<'a>,
-    pkg: &'a Pkg,
-    pkgs: &'a Pkgs,
-    class: &'a DepExpr,
-    flags: Vec<KnownFlag<'a>>,
-    atoms: Vec<AtomSite<'a>>,
-}
-
-impl<'a> Model for ClassSites<'a> {
-    ghost use Rattle.std.specs.Prelude.{◌≡◌, map};
-    ghost use Rattle.gv_expr.specs.Dep.{deps};
-    ghost use Rattle.gv_expr.specs.Mentioned.{dep_mentions, wanted_atoms};
-    ghost use Rattle.gv_lower.specs.Sites.{ClassSites, coded_sites, known_of, site_of};
-
-    ghost Value = { ClassSites };
-
-    ghost coded = { coded_sites };
-
-    ghost view = { λ s. record { profiles = s.ruled.now; of = s.pkg.now; pkgs = s.pkgs.now; class = s.class.now } };
-
-    ghost invariant = { λ s. (s.flags.items ≡ map (known_of s.ruled.now s.pkg.now) (dep_mentions (deps s.class.now))) × (s.atoms.items ≡ map (site_of s.ruled.now s.pkgs.now) (wanted_atoms (deps s.class.now))) };
-}
-
-impl<'a> ClassSites<'a> {
-    /// Those of this class of the package among the packages of the index.
-    pub fn new(
-        alloc: Global,
-        ruled: &'a RuledFlags<'a>,
-        pkg: &'a Pkg,
-        index: &PkgIndex<'a>,
-        class: &'a DepExpr,
-    ) -> Result<ClassSites<'a>, NoMemory>
-        ensures { IfOk result (λ sites. sites ≡ record { profiles = ruled.now; of = pkg.now; pkgs = index.now; class = class.now }) }
-    {
-        let mut mentions = Mentions::new(alloc);
-        mentions.add_class(class)?;
-        let flags = known_flags(alloc, ruled, pkg, mentions.items())?;
-        let mut atoms = Vec::new(alloc);
-        add_sites(alloc, class, ruled, index, &mut atoms)?;
-        Ok(ClassSites {
-            ruled,
-            pkg,
-            pkgs: index.pkgs(),
-            class,
-            flags,
-            atoms,
-        })
-    }
-
-    pub(crate) fn pkg(&self) -> &'a Pkg
-        ensures { result.now ≡ self.now.of }
-    {
-        self.pkg
-    }
-
-    pub(crate) fn flags(&self) -> &[KnownFlag<'a>]
-        ensures { result.now ≡ map (known_of self.now.profiles self.now.of) (dep_mentions (deps self.now.class)) }
-    {
-        &self.flags
-    }
-
-    pub(crate) fn atoms(&self) -> &[AtomSite<'a>]
-        ensures { result.now ≡ map (site_of self.now.profiles self.now.pkgs) (wanted_atoms (deps self.now.class)) }
-    {
-        &self.atoms
     }
 }

@@ -6,19 +6,19 @@ ghost use Rattle.std.specs.Prelude.{◌≡◌, ℕ, ◌+◌, ◌*◌, [], ◌∷
 ghost use Rattle.gv_expr.specs.Dep as dep;
 ghost use Rattle.gv_expr.specs.Dep.{deps};
 ghost use Rattle.gv_expr.specs.DepView.{dep_of};
-ghost use Rattle.gv_expr.specs.Req as req;
-ghost use Rattle.gv_expr.specs.Req.{reqs};
-ghost use Rattle.gv_expr.specs.ReqGrammar.{req_tokens};
-ghost use Rattle.gv_expr.specs.ReqView.{req_of};
+ghost use Rattle.gv_expr.specs.Required as req;
+ghost use Rattle.gv_expr.specs.Required.{reqs};
+ghost use Rattle.gv_expr.specs.RequiredGrammar.{req_tokens};
+ghost use Rattle.gv_expr.specs.RequiredView.{req_of};
 ghost use Rattle.gv_entry.specs.Weight.{weight};
 ghost use Rattle.gv_facts.specs.Places.{is_pkg_of};
 ghost use Rattle.gv_facts.specs.declared.pkg.Pkg.{Pkg};
 ghost use Rattle.gv_lower.specs.Around.{parent_of};
 ghost use Rattle.gv_lower.specs.Lowered.{LightWeight};
 ghost use Rattle.gv_lower.specs.Weights.{capped, class_weight, packages_weight};
-ghost use Rattle.gv_visible.specs.Shown.{shows};
-ghost use Rattle.gv_visible.specs.Tells.{AnswersVisible};
-ghost use Rattle.gv_visible.specs.Told.{level_of, pkgs_of, profile_of, test_of};
+ghost use Rattle.gv_visible.specs.VisiblePkgs.{shows};
+ghost use Rattle.gv_visible.specs.StoredTest.{AnswersVisible};
+ghost use Rattle.gv_visible.specs.Candidates.{level_of, pkgs_of, profile_of, test_of};
 
 use crate::query::LowerFault;
 use gv_atom::{Atom, Block, UseItem};
@@ -37,6 +37,35 @@ enum Counted {
     Named,
     // those that it matches and that are visible
     Shown,
+}
+
+// Whether the query of REQUIRED_USE is light enough.
+pub(crate) fn light_required(required: &UseExpr) -> Result<(), LowerFault>
+    ensures { LightWeight (length (req_tokens (reqs required.now))) result }
+{
+    light(required_tokens(required))
+}
+
+// Whether the query of a class is. All packages of a name are counted first, and those that are shown only where these are
+// too many.
+pub(crate) fn light_class<F: Fn(&Pkg) -> bool>(
+    required: &UseExpr,
+    class: &DepExpr,
+    pkg: &Pkg,
+    candidates: &Candidates<'_, F>,
+) -> Result<(), LowerFault>
+    requires { AnswersVisible (F.pre (test_of candidates.now)) (F.post (test_of candidates.now)) (profile_of candidates.now) (level_of candidates.now) }
+    ensures { LightWeight (weight (parent_of candidates.now pkg.now) required.now class.now) result }
+{
+    let tokens = required_tokens(required);
+    let named = class_weight(Counted::Named, class, pkg, candidates)?;
+    match light(plus(tokens, named)) {
+        Ok(()) => Ok(()),
+        Err(_) => {
+            let shown = class_weight(Counted::Shown, class, pkg, candidates)?;
+            light(plus(tokens, shown))
+        }
+    }
 }
 
 // A sum that ends at the last number.
@@ -182,34 +211,5 @@ fn light(count: u64) -> Result<(), LowerFault>
         Err(LowerFault::Weight { count })
     } else {
         Ok(())
-    }
-}
-
-// Whether the query of REQUIRED_USE is light enough.
-pub(crate) fn light_required(required: &UseExpr) -> Result<(), LowerFault>
-    ensures { LightWeight (length (req_tokens (reqs required.now))) result }
-{
-    light(required_tokens(required))
-}
-
-// Whether the query of a class is. All packages of a name are counted first, and those that are shown only where these are
-// too many.
-pub(crate) fn light_class<F: Fn(&Pkg) -> bool>(
-    required: &UseExpr,
-    class: &DepExpr,
-    pkg: &Pkg,
-    candidates: &Candidates<'_, F>,
-) -> Result<(), LowerFault>
-    requires { AnswersVisible (F.pre (test_of candidates.now)) (F.post (test_of candidates.now)) (profile_of candidates.now) (level_of candidates.now) }
-    ensures { LightWeight (weight (parent_of candidates.now pkg.now) required.now class.now) result }
-{
-    let tokens = required_tokens(required);
-    let named = class_weight(Counted::Named, class, pkg, candidates)?;
-    match light(plus(tokens, named)) {
-        Ok(()) => Ok(()),
-        Err(_) => {
-            let shown = class_weight(Counted::Shown, class, pkg, candidates)?;
-            light(plus(tokens, shown))
-        }
     }
 }

@@ -7,11 +7,11 @@ use Rattle.gv_profile.specs.declared.desc.DescLine.{DescLine}
 use Rattle.gv_profile.specs.declared.files.DirFiles.{DirFiles}
 use Rattle.gv_profile.specs.declared.files.NamedFile.{NamedFile}
 use Rattle.gv_profile.specs.declared.folding.Folded.{Folded}
-use Rattle.gv_profile.specs.Folds.{profile_of, start, with_dir, with_files}
+use Rattle.gv_profile.specs.Folding.{profile_of, start, with_dir, with_files}
 use Rattle.gv_profile.specs.Laws.{IsApplied, masks_at, rules_at}
-use Rattle.gv_profile.specs.Masks.{mask_lines, masks_of}
-use Rattle.gv_profile.specs.Rules.{dir_rules}
-use Rattle.gv_profile.specs.Walk.{Look, line_walk, stack_of}
+use Rattle.gv_profile.specs.MaskLines.{mask_lines, masks_of}
+use Rattle.gv_profile.specs.FlagRules.{dir_rules}
+use Rattle.gv_profile.specs.Walking.{Look, line_walk, stack_of}
 use Rattle.gv_profile.proofs.MaskLaw.{all_staying}
 
 more_rules : (folded : Folded) (files : Option DirFiles) → (with_files folded files).rules ≡ folded.rules ++ option_map_or dir_rules files []

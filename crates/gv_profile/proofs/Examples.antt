@@ -10,12 +10,12 @@ use Rattle.gv_profile.specs.declared.files.DirFiles.{DirFiles}
 use Rattle.gv_profile.specs.declared.files.NamedFile.{NamedFile}
 use Rattle.gv_profile.specs.declared.notes.PlaceNote.{PlaceNote}
 use Rattle.gv_profile.specs.Desc.{desc_read}
-use Rattle.gv_profile.specs.DirNotes.{dir_notes}
+use Rattle.gv_profile.specs.BadLines.{dir_notes}
 use Rattle.gv_profile.specs.Eapi.{eapi_in}
-use Rattle.gv_profile.specs.Masks.{file_atom, masks_of, mask_lines}
+use Rattle.gv_profile.specs.MaskLines.{file_atom, masks_of, mask_lines}
 use Rattle.gv_profile.specs.Names.{profiles, desc_path, eapi_path, parent_path, detail_of}
-use Rattle.gv_profile.specs.Rules.{dir_rules}
-use Rattle.gv_profile.specs.Walk.{Look, walk_below, line_walk, stack_of, stack_fault}
+use Rattle.gv_profile.specs.FlagRules.{dir_rules}
+use Rattle.gv_profile.specs.Walking.{Look, walk_below, line_walk, stack_of, stack_fault}
 
 abbrev empty_dir : DirFiles
 empty_dir = record {

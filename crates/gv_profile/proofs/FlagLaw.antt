@@ -12,7 +12,7 @@ use Rattle.gv_facts.specs.declared.rules.Effect.TheVariants.{Force, Mask}
 use Rattle.gv_facts.specs.declared.rules.Rule.{Rule}
 use Rattle.gv_facts.specs.States.{is_same}
 use Rattle.gv_profile.specs.Laws.{decides, LastDecides, IsUndone}
-use Rattle.gv_profile.specs.Rules.{rule_of}
+use Rattle.gv_profile.specs.FlagRules.{rule_of}
 
 -- what a rule makes of what the rules in front of it say
 abbrev decided : Effect → Pkg → Profile → Level → List ℕ → Bool → Rule → Bool

@@ -8,7 +8,7 @@ use Rattle.gv_facts.specs.declared.masks.Mask.{Mask}
 use Rattle.gv_profile.specs.declared.mask_lines.MaskLine.{MaskLine}
 use Rattle.gv_profile.specs.declared.mask_lines.MaskLine.TheVariants.{Adds, Takes}
 use Rattle.gv_profile.specs.Laws.{takes, staying}
-use Rattle.gv_profile.specs.Masks.{mask_after, masks_of}
+use Rattle.gv_profile.specs.MaskLines.{mask_after, masks_of}
 
 -- those that no line takes away
 abbrev left_by : List MaskLine → List Mask → List Mask

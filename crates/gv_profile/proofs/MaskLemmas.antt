@@ -8,7 +8,7 @@ use Rattle.std.proofs.lemmas.Map.Text.{is_eq-slice_cmp}
 use Rattle.gv_base.specs.Order.{byte_cmp, has_text}
 use Rattle.gv_facts.specs.declared.masks.Mask.{Mask}
 use Rattle.gv_profile.specs.declared.mask_lines.MaskLine.{MaskLine}
-use Rattle.gv_profile.specs.Masks.{mask_after, masks_of}
+use Rattle.gv_profile.specs.MaskLines.{mask_after, masks_of}
 
 pub has_key : (keys : List (List ℕ)) (text : List ℕ) → list_any (is_at (byte_cmp text)) keys ≡ has_text keys text
 has_key [] text = refl

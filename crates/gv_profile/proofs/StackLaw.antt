@@ -11,9 +11,9 @@ use Rattle.gv_profile.specs.declared.files.DirFiles.{DirFiles}
 use Rattle.gv_profile.specs.declared.parent_files.ParentLine.{ParentLine}
 use Rattle.gv_profile.specs.Eapi.{has_bad_eapi}
 use Rattle.gv_profile.specs.Names.{eapi_path}
-use Rattle.gv_profile.specs.Parents.{parents_of}
+use Rattle.gv_profile.specs.ParentFiles.{parents_of}
 use Rattle.gv_profile.specs.Stacks.{AreStacks, IsLineStack, none, next}
-use Rattle.gv_profile.specs.Walk.{Look, Met, at_parent, at_path, eapi_fault, fault, first_fault, found, from_dir, from_files, leave, line_dir, line_walk, most_visits, stack_fault, stack_of, there, visit, walk, walk_below}
+use Rattle.gv_profile.specs.Walking.{Look, Met, at_parent, at_path, eapi_fault, fault, first_fault, found, from_dir, from_files, leave, line_dir, line_walk, most_visits, stack_fault, stack_of, there, visit, walk, walk_below}
 
 stack-append : (ms ns : List Met) → stack_of (ms ++ ns) ≡ stack_of ms ++ stack_of ns
 stack-append [] ns = refl

@@ -13,11 +13,11 @@ use Rattle.gv_profile.specs.declared.folding.Folded.{Folded}
 use Rattle.gv_profile.specs.declared.faults.ProfileFault.TheVariants.{TooMany, BadEapi}
 use Rattle.gv_profile.specs.Eapi.{has_bad_eapi}
 use Rattle.gv_profile.specs.Names.{eapi_path}
-use Rattle.gv_profile.specs.Parents.{parents_of}
-use Rattle.gv_profile.specs.Walk.{Look, Met, visit, leave, eapi_fault, at_parent, walk, walk_below, most_visits, first_fault}
+use Rattle.gv_profile.specs.ParentFiles.{parents_of}
+use Rattle.gv_profile.specs.Walking.{Look, Met, visit, leave, eapi_fault, at_parent, walk, walk_below, most_visits, first_fault}
 use Rattle.gv_profile.specs.Frames.{left_of, left_below, left, Leads}
-use Rattle.gv_profile.specs.Ways.{family_of}
-use Rattle.gv_profile.specs.Folds.{with_dir}
+use Rattle.gv_profile.specs.FrameIndex.{family_of}
+use Rattle.gv_profile.specs.Folding.{with_dir}
 use Rattle.gv_profile.specs.Slices.{dropped, nothing_dropped}
 
 -- a directory that is not too deep

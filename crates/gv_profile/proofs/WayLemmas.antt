@@ -12,8 +12,9 @@ use Rattle.std.specs.Prelude.{slice_get}
 use Rattle.std.specs.Str.{bytes_eq}
 use Rattle.gv_base.specs.ByteMap.{ByteMap}
 use Rattle.gv_profile.specs.declared.frames.Frame.{Frame}
-use Rattle.gv_profile.specs.Ways.{family_of}
-use Rattle.gv_profile.specs.Ways.{is_among, stands_at, FindsAll, with_place}
+use Rattle.gv_profile.specs.FrameIndex.{family_of}
+use Rattle.gv_profile.specs.FrameIndex.{is_among, stands_at, FindsAll}
+use Rattle.gv_profile.specs.PrivateWords.{with_place}
 
 or_none : (b : Bool) → (b || (false || false)) ≡ b
 or_none true = refl

@@ -1,9 +1,6 @@
 -- The lines of `profiles/profiles.desc` (PMS chapter 4: arch, path under `profiles`, status).
-use Rattle.std.specs.Prelude.{◌≡◌, ℕ, map, ◌&&◌, Bool, false, if◌then◌else◌, List, [], ◌∷◌, ◌++◌, Option, Some, None, option_map, fold, codes}
-use Rattle.std.specs.FinMap.{get}
-use Rattle.std.specs.Option.{is_some}
+use Rattle.std.specs.Prelude.{ℕ, map, ◌&&◌, Bool, false, if◌then◌else◌, List, [], ◌∷◌, ◌++◌, Option, Some, None, option_map, fold, codes}
 use Rattle.std.specs.List.{list_any}
-use Rattle.gv_base.specs.FileMap.{FileMap}
 use Rattle.std.specs.Str.{bytes_eq}
 use Rattle.gv_version.specs.Names.{is_keyword}
 use Rattle.gv_facts.specs.declared.kinds.Status.{Status}
@@ -34,10 +31,6 @@ abbrev pub repeats : List DescLine → List (List ℕ) → Bool
 repeats lines [] = false
 repeats lines (arch ∷ []) = false
 repeats lines (arch ∷ path ∷ words) = list_any (bytes_eq (key_of arch path)) (map line_key lines)
-
--- the keys of these lines are kept
-unfoldable pub Keeps : FileMap → List DescLine → Type 0
-Keeps keys lines = (key : List ℕ) → is_some (get keys key) ≡ list_any (bytes_eq key) (map line_key lines)
 
 abbrev pub described : ℕ → List ℕ → List ℕ → Status → DescLine
 described number arch path status = record { number = number; arch = arch; path = path; status = status }

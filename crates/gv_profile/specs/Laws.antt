@@ -17,10 +17,10 @@ use Rattle.gv_profile.specs.declared.files.NamedFile.{NamedFile}
 use Rattle.gv_profile.specs.declared.flag_rules.RuleFile.{RuleFile}
 use Rattle.gv_profile.specs.declared.mask_lines.MaskLine.{MaskLine}
 use Rattle.gv_profile.specs.declared.mask_lines.MaskLine.TheVariants.{Adds, Takes}
-use Rattle.gv_profile.specs.Folds.{profile_of}
-use Rattle.gv_profile.specs.Masks.{mask_lines}
-use Rattle.gv_profile.specs.Rules.{dir_rules, rule_of}
-use Rattle.gv_profile.specs.Walk.{Look}
+use Rattle.gv_profile.specs.Folding.{profile_of}
+use Rattle.gv_profile.specs.MaskLines.{mask_lines}
+use Rattle.gv_profile.specs.FlagRules.{dir_rules, rule_of}
+use Rattle.gv_profile.specs.Walking.{Look}
 
 -- ---- what the directories of a stack add
 

@@ -3,8 +3,8 @@ use Rattle.std.specs.Prelude.{◌≡◌, ℕ, List, [], ◌∷◌, ◌++◌, Som
 use Rattle.gv_profile.specs.declared.desc.DescLine.{DescLine}
 use Rattle.gv_profile.specs.declared.files.DirFiles.{DirFiles}
 use Rattle.gv_profile.specs.declared.parent_files.ParentLine.{ParentLine}
-use Rattle.gv_profile.specs.Parents.{parents_of}
-use Rattle.gv_profile.specs.Walk.{Look, line_dir}
+use Rattle.gv_profile.specs.ParentFiles.{parents_of}
+use Rattle.gv_profile.specs.Walking.{Look, line_dir}
 
 -- the stacks of parents, one after the other
 pub data AreStacks (look : Look) : List ParentLine → List (List ℕ) → Type 0 where

@@ -20,7 +20,7 @@ pub struct Dirs {
 
 impl Model for Dirs {
     ghost use Rattle.gv_base.specs.ByteMap.{map_of};
-    ghost use Rattle.gv_profile.specs.DirMap.{DirMap, coded_dirs};
+    ghost use Rattle.gv_profile.specs.Dirs.{DirMap, coded_dirs};
 
     ghost Value = { DirMap };
 

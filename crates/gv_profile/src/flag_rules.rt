@@ -2,7 +2,7 @@
 ghost use Rattle.std.specs.Prelude.{◌≡◌, ◌++◌, Some, None, false, true, map, IfOk, OnOk};
 ghost use Rattle.std.specs.List.{list_all};
 ghost use Rattle.gv_profile.specs.Lines.{file_lines};
-ghost use Rattle.gv_profile.specs.Rules.{is_off, flag_of, is_flag_word, are_flag_words, rule_of, flag_rules, atom_rules, package_rules, line_rules, rules_among, rules_in, masks, forces, stable_rules, dir_rules};
+ghost use Rattle.gv_profile.specs.FlagRules.{is_off, flag_of, is_flag_word, are_flag_words, rule_of, flag_rules, atom_rules, package_rules, line_rules, rules_among, rules_in, masks, forces, stable_rules, dir_rules};
 
 use crate::eapi::has_stable;
 use crate::lines::line_words;
@@ -20,6 +20,65 @@ pub(crate) struct RuleFile {
     effect: Effect,
     stable: bool,
     by_package: bool,
+}
+
+/// Whether a word is a flag, or a hyphen and a flag.
+pub(crate) fn is_flag_word(word: &[u8]) -> bool
+    ensures { result ≡ is_flag_word word.now }
+{
+    is_flag(flag_of(word))
+}
+
+/// Whether there are one or more words, each a flag or a hyphen and a flag.
+pub(crate) fn are_flag_words(words: &[Text]) -> bool
+    ensures { result ≡ are_flag_words words.now }
+{
+    match words {
+        [] => false,
+        _ => all_flag_words(words),
+    }
+}
+
+/// Adds the rules of a directory: those of plain files, stable files, package files and stable package files.
+pub(crate) fn add_dir_rules(
+    alloc: Global,
+    rules: &mut Rules,
+    files: &DirFiles,
+) -> Result<(), NoMemory>
+    ensures { OnOk result (rules.new ≡ rules.old ++ dir_rules files.now) }
+{
+    add_both(
+        alloc,
+        rules,
+        false,
+        false,
+        &files.use_mask,
+        &files.use_force,
+    )?;
+    add_stable(
+        alloc,
+        rules,
+        files,
+        false,
+        &files.use_stable_mask,
+        &files.use_stable_force,
+    )?;
+    add_both(
+        alloc,
+        rules,
+        false,
+        true,
+        &files.package_use_mask,
+        &files.package_use_force,
+    )?;
+    add_stable(
+        alloc,
+        rules,
+        files,
+        true,
+        &files.package_use_stable_mask,
+        &files.package_use_stable_force,
+    )
 }
 
 fn is_off(word: &[u8]) -> bool
@@ -40,13 +99,6 @@ fn flag_of(word: &[u8]) -> &[u8]
     }
 }
 
-/// Whether a word is a flag, or a hyphen and a flag.
-pub(crate) fn is_flag_word(word: &[u8]) -> bool
-    ensures { result ≡ is_flag_word word.now }
-{
-    is_flag(flag_of(word))
-}
-
 fn all_flag_words(words: &[Text]) -> bool
     ensures { result ≡ list_all is_flag_word words.now }
 {
@@ -56,16 +108,6 @@ fn all_flag_words(words: &[Text]) -> bool
         }
     }
     true
-}
-
-/// Whether there are one or more words, each a flag or a hyphen and a flag.
-pub(crate) fn are_flag_words(words: &[Text]) -> bool
-    ensures { result ≡ are_flag_words words.now }
-{
-    match words {
-        [] => false,
-        _ => all_flag_words(words),
-    }
 }
 
 fn copy_atom(alloc: Global, atom: &Option<Atom>) -> Result<Option<Atom>, NoMemory>
@@ -250,46 +292,4 @@ fn add_stable(
     } else {
         Ok(())
     }
-}
-
-/// Adds the rules of a directory: those of plain files, stable files, package files and stable package files.
-pub(crate) fn add_dir_rules(
-    alloc: Global,
-    rules: &mut Rules,
-    files: &DirFiles,
-) -> Result<(), NoMemory>
-    ensures { OnOk result (rules.new ≡ rules.old ++ dir_rules files.now) }
-{
-    add_both(
-        alloc,
-        rules,
-        false,
-        false,
-        &files.use_mask,
-        &files.use_force,
-    )?;
-    add_stable(
-        alloc,
-        rules,
-        files,
-        false,
-        &files.use_stable_mask,
-        &files.use_stable_force,
-    )?;
-    add_both(
-        alloc,
-        rules,
-        false,
-        true,
-        &files.package_use_mask,
-        &files.package_use_force,
-    )?;
-    add_stable(
-        alloc,
-        rules,
-        files,
-        true,
-        &files.package_use_stable_mask,
-        &files.package_use_stable_force,
-    )
 }

@@ -5,7 +5,7 @@ ghost use Rattle.std.specs.Prelude.{◌≡◌, ◌++◌, map, IfOk, OnOk};
 ghost use Rattle.std.specs.FinMap as finite;
 ghost use Rattle.std.specs.Option.{option_copied};
 ghost use Rattle.gv_defaults.specs.Settings.{words_of};
-ghost use Rattle.gv_profile.specs.Folds.{vars_with, with_files, with_masks, with_dir, start, value_list, profile_with};
+ghost use Rattle.gv_profile.specs.Folding.{vars_with, with_files, with_masks, with_dir, start, value_list, profile_with};
 ghost use Rattle.gv_profile.specs.Names.{iuse_implicit, use_expand, use_expand_implicit, use_expand_unprefixed, use_expand_values};
 
 use crate::flag_rules::add_dir_rules;
@@ -53,6 +53,44 @@ pub(crate) fn start(alloc: Global, first: &NamedFiles) -> Result<Folded, NoMemor
     with_masks(alloc, nothing, first)
 }
 
+/// One directory more.
+pub(crate) fn with_dir(
+    alloc: Global,
+    dirs: &Dirs,
+    folded: Folded,
+    dir: &Text,
+) -> Result<Folded, NoMemory>
+    ensures { IfOk result (λ after. after ≡ with_dir (finite.get dirs.now) folded dir.now) }
+{
+    with_files(alloc, folded, dirs.get(dir.bytes()))
+}
+
+/// The profile of a line whose whole stack was folded.
+pub(crate) fn profile_with(
+    alloc: Global,
+    line: &DescLine,
+    folded: Folded,
+) -> Result<Profile, NoMemory>
+    ensures { IfOk result (λ profile. profile ≡ profile_with line.now folded) }
+{
+    let Folded { vars, lines, rules } = folded;
+    let expand_implicit = use_expand_implicit(alloc, &vars)?;
+    let values = value_lists(alloc, &vars, &expand_implicit)?;
+    Ok(Profile {
+        line: line.number,
+        arch: line.arch.copy(alloc)?,
+        path: line.path.copy(alloc)?,
+        status: line.status,
+        iuse_implicit: iuse_implicit(alloc, &vars)?,
+        expand: use_expand(alloc, &vars)?,
+        expand_implicit,
+        unprefixed: use_expand_unprefixed(alloc, &vars)?,
+        values,
+        masks: masks_of(alloc, lines)?,
+        rules,
+    })
+}
+
 fn vars_with(alloc: Global, vars: Vars, defaults: &Option<Text>) -> Result<Vars, NoMemory>
     ensures { IfOk result (λ after. after ≡ vars_with vars defaults.now) }
 {
@@ -82,18 +120,6 @@ fn with_files(alloc: Global, folded: Folded, files: Option<&DirFiles>) -> Result
         }
         None => Ok(folded),
     }
-}
-
-/// One directory more.
-pub(crate) fn with_dir(
-    alloc: Global,
-    dirs: &Dirs,
-    folded: Folded,
-    dir: &Text,
-) -> Result<Folded, NoMemory>
-    ensures { IfOk result (λ after. after ≡ with_dir (finite.get dirs.now) folded dir.now) }
-{
-    with_files(alloc, folded, dirs.get(dir.bytes()))
 }
 
 #[tactic(auto, unfolding(crate::specs::Names::iuse_implicit))]
@@ -150,30 +176,4 @@ fn value_lists(alloc: Global, vars: &Vars, names: &Texts) -> Result<ValueLists, 
         lists.add(value_list(alloc, vars, name)?)?;
     }
     Ok(lists)
-}
-
-/// The profile of a line whose whole stack was folded.
-pub(crate) fn profile_with(
-    alloc: Global,
-    line: &DescLine,
-    folded: Folded,
-) -> Result<Profile, NoMemory>
-    ensures { IfOk result (λ profile. profile ≡ profile_with line.now folded) }
-{
-    let Folded { vars, lines, rules } = folded;
-    let expand_implicit = use_expand_implicit(alloc, &vars)?;
-    let values = value_lists(alloc, &vars, &expand_implicit)?;
-    Ok(Profile {
-        line: line.number,
-        arch: line.arch.copy(alloc)?,
-        path: line.path.copy(alloc)?,
-        status: line.status,
-        iuse_implicit: iuse_implicit(alloc, &vars)?,
-        expand: use_expand(alloc, &vars)?,
-        expand_implicit,
-        unprefixed: use_expand_unprefixed(alloc, &vars)?,
-        values,
-        masks: masks_of(alloc, lines)?,
-        rules,
-    })
 }

@@ -1,9 +1,9 @@
 //! Laws of the definitions: each function does nothing, and its contract holds of all directories, lines and rules.
 ghost use Rattle.std.specs.Prelude.{◌≡◌, ◌++◌, ℕ, List, None, Some, codes};
 ghost use Rattle.gv_profile.specs.Laws.{IsApplied, IsUndone, LastDecides, staying};
-ghost use Rattle.gv_profile.specs.Masks.{mask_of, masks_of};
+ghost use Rattle.gv_profile.specs.MaskLines.{mask_of, masks_of};
 ghost use Rattle.gv_profile.specs.Stacks.{IsLineStack};
-ghost use Rattle.gv_profile.specs.Walk.{Look, line_walk, stack_fault, stack_of};
+ghost use Rattle.gv_profile.specs.Walking.{Look, line_walk, stack_fault, stack_of};
 ghost use Rattle.gv_profile.specs.declared.desc.DescLine.{DescLine};
 ghost use Rattle.gv_profile.specs.declared.files.NamedFile.{NamedFile};
 ghost use Rattle.gv_profile.specs.declared.mask_lines.MaskLine.{MaskLine};

@@ -6,13 +6,14 @@
 //! - `files`, `dirs`: the files of a directory as they were read, and the directories by path.
 //! - `mask_lines`, `flag_rules`, `folding`: what the files of one directory add to what a stack comes to.
 //! - `frames`, `walking`, `profiles`: the walk of a stack, folded while it goes, without recursion.
-//! - `noting`: the bad lines of a directory.
+//! - `bad_lines`: the bad lines of a directory.
 //! - `laws`: what stacks, masks and rules on flags come to, in a maintainer's words.
 //!
 //! The crate stands on `gv_atom`, `gv_defaults` and `gv_facts`. The layer above reads the files, hands them over as `Dirs`
 //! and takes the profile of each line, or the first fault of its walk, by `fold`.
 #![tactic(auto)]
 
+mod bad_lines;
 mod desc;
 mod dirs;
 mod eapi;
@@ -25,7 +26,6 @@ mod laws;
 mod lines;
 mod mask_lines;
 mod notes;
-mod noting;
 mod parent_files;
 mod paths;
 mod profiles;
@@ -33,6 +33,7 @@ mod profiles;
 mod tests;
 mod walking;
 
+pub use bad_lines::{dir_notes, mask_notes};
 pub use desc::{DescLine, DescLines, DescRead, read_desc};
 pub use dirs::Dirs;
 pub use faults::ProfileFault;
@@ -40,7 +41,6 @@ pub use files::{DirFiles, NamedFile, NamedFiles};
 pub use laws::{flag_law, mask_law, stack_law};
 pub use lines::line_words;
 pub use notes::{PlaceNote, PlaceNotes};
-pub use noting::{dir_notes, mask_notes};
 pub use parent_files::{ParentLine, ParentLines, parents};
 pub use paths::within;
 pub use profiles::{fold, line_dir};

@@ -6,9 +6,9 @@ ghost use Rattle.std.specs.Prelude.{◌≡◌, ◌||◌, ◌++◌, ◌∷◌, []
 ghost use Rattle.std.specs.Str.{bytes_eq};
 ghost use Rattle.gv_base.specs.Order.{has_text};
 ghost use Rattle.gv_facts.specs.declared.masks.Mask as declared_mask;
-ghost use Rattle.gv_atom.specs.AtomRead.{read_atom};
+ghost use Rattle.gv_atom.specs.Reading.{read_atom};
 ghost use Rattle.gv_profile.specs.Behind.{still};
-ghost use Rattle.gv_profile.specs.Masks.{plain, file_atom, adding, mask_of, mask_in, mask_lines, mask_after, masks_among, masks_of};
+ghost use Rattle.gv_profile.specs.MaskLines.{plain, file_atom, adding, mask_of, mask_in, mask_lines, mask_after, masks_among, masks_of};
 ghost use Rattle.gv_profile.specs.Lines.{file_lines};
 
 use crate::NamedFiles;
@@ -68,6 +68,62 @@ impl MaskLines {
     }
 }
 
+/// The atom of a word, where it is one that blocks nothing and asks nothing of flags.
+#[tactic(auto, unfolding(crate::specs::MaskLines::file_atom))]
+pub(crate) fn file_atom(alloc: Global, bytes: &[u8]) -> Result<Option<Atom>, NoMemory>
+    ensures { IfOk result (λ atom. atom ≡ file_atom bytes.now) }
+{
+    match any_atom(alloc, bytes)? {
+        Some(atom) => Ok(plain(atom)),
+        None => Ok(None),
+    }
+}
+
+/// What a word of a `package.mask` says.
+pub(crate) fn mask_of(alloc: Global, word: &[u8]) -> Result<Option<MaskLine>, NoMemory>
+    ensures { IfOk result (λ line. line ≡ mask_of word.now) }
+{
+    match word {
+        [] => Ok(None),
+        [b'-', text @ ..] => {
+            let text = Text::of(alloc, text)?;
+            Ok(Some(MaskLine::Takes { text }))
+        }
+        _ => adding(alloc, word),
+    }
+}
+
+/// Adds the lines of mask files.
+pub(crate) fn add_mask_lines(
+    alloc: Global,
+    lines: &mut MaskLines,
+    files: &NamedFiles,
+) -> Result<(), NoMemory>
+    ensures { OnOk result (lines.new ≡ lines.old ++ mask_lines files.now) }
+{
+    for file in files.items() {
+        add_lines(alloc, lines, file.bytes.bytes())?;
+    }
+    Ok(())
+}
+
+/// What is known of the lines from some place on.
+#[derive(Drop)]
+pub(crate) struct Behind {
+    // The texts that they take away.
+    taken: BTreeSet<Text>,
+    // The masks that stay, the last first.
+    kept: Vec<Mask>,
+}
+
+/// The masks that the lines come to: each is added at its turn, and `-text` takes every earlier one with this text away.
+pub(crate) fn masks_of(alloc: Global, lines: MaskLines) -> Result<Masks, NoMemory>
+    ensures { IfOk result (λ masks. masks ≡ masks_of lines) }
+{
+    let kept = look_back(alloc, lines.into_items())?;
+    turned(alloc, kept)
+}
+
 fn plain(atom: Atom) -> Option<Atom>
     ensures { result ≡ plain atom }
 {
@@ -88,17 +144,6 @@ fn any_atom(alloc: Global, bytes: &[u8]) -> Result<Option<Atom>, NoMemory>
     }
 }
 
-/// The atom of a word, where it is one that blocks nothing and asks nothing of flags.
-#[tactic(auto, unfolding(crate::specs::Masks::file_atom))]
-pub(crate) fn file_atom(alloc: Global, bytes: &[u8]) -> Result<Option<Atom>, NoMemory>
-    ensures { IfOk result (λ atom. atom ≡ file_atom bytes.now) }
-{
-    match any_atom(alloc, bytes)? {
-        Some(atom) => Ok(plain(atom)),
-        None => Ok(None),
-    }
-}
-
 fn adding(alloc: Global, text: &[u8]) -> Result<Option<MaskLine>, NoMemory>
     ensures { IfOk result (λ line. line ≡ adding text.now) }
 {
@@ -110,20 +155,6 @@ fn adding(alloc: Global, text: &[u8]) -> Result<Option<MaskLine>, NoMemory>
             }))
         }
         None => Ok(None),
-    }
-}
-
-/// What a word of a `package.mask` says.
-pub(crate) fn mask_of(alloc: Global, word: &[u8]) -> Result<Option<MaskLine>, NoMemory>
-    ensures { IfOk result (λ line. line ≡ mask_of word.now) }
-{
-    match word {
-        [] => Ok(None),
-        [b'-', text @ ..] => {
-            let text = Text::of(alloc, text)?;
-            Ok(Some(MaskLine::Takes { text }))
-        }
-        _ => adding(alloc, word),
     }
 }
 
@@ -148,29 +179,6 @@ fn add_lines(alloc: Global, lines: &mut MaskLines, bytes: &[u8]) -> Result<(), N
         }
     }
     Ok(())
-}
-
-/// Adds the lines of mask files.
-pub(crate) fn add_mask_lines(
-    alloc: Global,
-    lines: &mut MaskLines,
-    files: &NamedFiles,
-) -> Result<(), NoMemory>
-    ensures { OnOk result (lines.new ≡ lines.old ++ mask_lines files.now) }
-{
-    for file in files.items() {
-        add_lines(alloc, lines, file.bytes.bytes())?;
-    }
-    Ok(())
-}
-
-/// What is known of the lines from some place on.
-#[derive(Drop)]
-pub(crate) struct Behind {
-    // The texts that they take away.
-    taken: BTreeSet<Text>,
-    // The masks that stay, the last first.
-    kept: Vec<Mask>,
 }
 
 fn has_key(set: &BTreeSet<Text>, text: &Text) -> bool
@@ -236,12 +244,4 @@ fn turned(alloc: Global, mut kept: Vec<Mask>) -> Result<Masks, NoMemory>
         masks.add(mask)?;
     }
     Ok(masks)
-}
-
-/// The masks that the lines come to: each is added at its turn, and `-text` takes every earlier one with this text away.
-pub(crate) fn masks_of(alloc: Global, lines: MaskLines) -> Result<Masks, NoMemory>
-    ensures { IfOk result (λ masks. masks ≡ masks_of lines) }
-{
-    let kept = look_back(alloc, lines.into_items())?;
-    turned(alloc, kept)
 }

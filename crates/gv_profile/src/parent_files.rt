@@ -3,7 +3,7 @@ ghost use Rattle.std.specs.Prelude.{◌≡◌, ◌==◌, ◌++◌, ◌∷◌, []
 ghost use Rattle.std.specs.List.{list_any};
 ghost use Rattle.std.specs.Str.{byte};
 ghost use Rattle.gv_profile.specs.ParentWords.{is_parent};
-ghost use Rattle.gv_profile.specs.Parents.{parent_in, parent_lines};
+ghost use Rattle.gv_profile.specs.ParentFiles.{parent_in, parent_lines};
 ghost use Rattle.gv_profile.specs.Lines.{line_words};
 
 use crate::lines::{line_words, next_number};
@@ -19,15 +19,6 @@ pub struct ParentLine {
     pub path: Option<Text>,
     /// From 1.
     pub line: u32,
-}
-
-fn copy_path(alloc: Global, path: &Option<Text>) -> Result<Option<Text>, NoMemory>
-    ensures { IfOk result (λ copied. copied ≡ path.now) }
-{
-    match path {
-        Some(path) => Ok(Some(path.copy(alloc)?)),
-        None => Ok(None),
-    }
 }
 
 impl ParentLine {
@@ -95,6 +86,42 @@ impl ParentLines {
     }
 }
 
+/// Whether a word is a relative path without a colon.
+pub(crate) fn is_parent(word: &[u8]) -> bool
+    ensures { result ≡ is_parent word.now }
+{
+    is_relative(word) && !has_colon(word)
+}
+
+/// The parents that the bytes of a directory's `parent` file name, each with its line: those of the lines with one word,
+/// a relative path without a colon. A path is taken from the directory, and is `None` exactly where it leaves the root or
+/// is the root.
+pub fn parents(alloc: Global, dir: &Text, bytes: &[u8]) -> Result<ParentLines, NoMemory>
+    ensures { IfOk result (λ lines. lines ≡ parent_lines dir.now bytes.now) }
+{
+    let mut lines = ParentLines::new(alloc);
+    let mut rest = Some(bytes);
+    let mut line = 1u32;
+    while let Some(piece) = next_piece(&mut rest, Cut::Lines) {
+        let words = line_words(alloc, piece)?;
+        match parent_in(alloc, dir, line, words.items())? {
+            Some(parent) => lines.add(parent)?,
+            None => {}
+        }
+        line = next_number(line)?;
+    }
+    Ok(lines)
+}
+
+fn copy_path(alloc: Global, path: &Option<Text>) -> Result<Option<Text>, NoMemory>
+    ensures { IfOk result (λ copied. copied ≡ path.now) }
+{
+    match path {
+        Some(path) => Ok(Some(path.copy(alloc)?)),
+        None => Ok(None),
+    }
+}
+
 fn has_colon(word: &[u8]) -> bool
     ensures { result ≡ list_any (λ b. b == byte ":") word.now }
 {
@@ -104,13 +131,6 @@ fn has_colon(word: &[u8]) -> bool
         }
     }
     false
-}
-
-/// Whether a word is a relative path without a colon.
-pub(crate) fn is_parent(word: &[u8]) -> bool
-    ensures { result ≡ is_parent word.now }
-{
-    is_relative(word) && !has_colon(word)
 }
 
 fn parent_in(
@@ -132,24 +152,4 @@ fn parent_in(
         }
         _ => Ok(None),
     }
-}
-
-/// The parents that the bytes of a directory's `parent` file name, each with its line: those of the lines with one word,
-/// a relative path without a colon. A path is taken from the directory, and is `None` exactly where it leaves the root or
-/// is the root.
-pub fn parents(alloc: Global, dir: &Text, bytes: &[u8]) -> Result<ParentLines, NoMemory>
-    ensures { IfOk result (λ lines. lines ≡ parent_lines dir.now bytes.now) }
-{
-    let mut lines = ParentLines::new(alloc);
-    let mut rest = Some(bytes);
-    let mut line = 1u32;
-    while let Some(piece) = next_piece(&mut rest, Cut::Lines) {
-        let words = line_words(alloc, piece)?;
-        match parent_in(alloc, dir, line, words.items())? {
-            Some(parent) => lines.add(parent)?,
-            None => {}
-        }
-        line = next_number(line)?;
-    }
-    Ok(lines)
 }

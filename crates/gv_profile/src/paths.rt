@@ -16,6 +16,34 @@ pub fn within(alloc: Global, dir: &Text, name: &[u8]) -> Result<Text, NoMemory>
     Ok(path)
 }
 
+/// Whether the bytes are a relative path.
+pub(crate) fn is_relative(path: &[u8]) -> bool
+    ensures { result ≡ is_relative path.now }
+{
+    let mut rest = Some(without_slash(path));
+    while let Some(part) = next_piece(&mut rest, Cut::Parts) {
+        if !is_relative_part(part) {
+            return false;
+        }
+    }
+    true
+}
+
+/// The path from a folder; none where it leaves the root or is the root.
+#[tactic(auto, using(crate::proofs::PathLemmas::gone))]
+pub(crate) fn resolve(alloc: Global, dir: &[u8], path: &[u8]) -> Result<Option<Text>, NoMemory>
+    ensures { IfOk result (λ found. found ≡ resolved dir.now path.now) }
+{
+    let mut place = place_of(alloc, dir)?;
+    let mut rest = Some(without_slash(path));
+    while let Some(part) = next_piece(&mut rest, Cut::Parts) {
+        if !go(alloc, &mut place, part)? {
+            return Ok(None);
+        }
+    }
+    path_of(alloc, &place)
+}
+
 fn is_relative_part(part: &[u8]) -> bool
     ensures { result ≡ is_relative_part part.now }
 {
@@ -30,19 +58,6 @@ fn without_slash(path: &[u8]) -> &[u8]
     } else {
         path
     }
-}
-
-/// Whether the bytes are a relative path.
-pub(crate) fn is_relative(path: &[u8]) -> bool
-    ensures { result ≡ is_relative path.now }
-{
-    let mut rest = Some(without_slash(path));
-    while let Some(part) = next_piece(&mut rest, Cut::Parts) {
-        if !is_relative_part(part) {
-            return false;
-        }
-    }
-    true
 }
 
 // Goes from a place to one of its parts, or up; false where that leaves the root.
@@ -93,19 +108,4 @@ fn append_parts(path: &mut Text, parts: &[Text]) -> Result<(), NoMemory>
         path.append(part.bytes())?;
     }
     Ok(())
-}
-
-/// The path from a folder; none where it leaves the root or is the root.
-#[tactic(auto, using(crate::proofs::PathLemmas::gone))]
-pub(crate) fn resolve(alloc: Global, dir: &[u8], path: &[u8]) -> Result<Option<Text>, NoMemory>
-    ensures { IfOk result (λ found. found ≡ resolved dir.now path.now) }
-{
-    let mut place = place_of(alloc, dir)?;
-    let mut rest = Some(without_slash(path));
-    while let Some(part) = next_piece(&mut rest, Cut::Parts) {
-        if !go(alloc, &mut place, part)? {
-            return Ok(None);
-        }
-    }
-    path_of(alloc, &place)
 }

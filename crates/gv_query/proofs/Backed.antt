@@ -2,7 +2,7 @@
 use Rattle.std.proofs.Common.{refl}
 use Rattle.gv_logic.specs.Circuits.{Circuit, IsCircuit}
 use Rattle.gv_solver.specs.Laws.{BackedLaw}
-use Rattle.gv_cert.specs.AnswerBytes.{claim_bytes, log_of, IsLog}
+use Rattle.gv_cert.specs.Claim.{claim_bytes, log_of, IsLog}
 use Rattle.gv_cert.specs.Backing.{Backs, IsBacked}
 use Rattle.gv_cert.specs.declared.claim.Claim.{Claim}
 use Rattle.gv_cert.specs.declared.claim.Claim.TheVariants.{Refuted, Found}

@@ -3,7 +3,7 @@ use Rattle.std.proofs.Common.{◌≡◌, ◌⊎◌, inl, inr, ℕ, zero, suc, �
 use Rattle.std.specs.Prelude.{slice_set, replicate}
 use Rattle.std.proofs.Math.ListN.{length-set}
 use Rattle.gv_logic.specs.Partial.{is_true, trues, Has}
-use Rattle.gv_refute.specs.Notes.{IsNoted}
+use Rattle.gv_refute.specs.Marks.{IsNoted}
 
 trues_set : (on : List Bool) (i : ℕ) → i < length on → get_or on i false ≡ false → trues (slice_set on i true) ≡ trues on + 1
 trues_set [] i lt e = absurd (omega arith)

@@ -1,4 +1,5 @@
-pub mod Judged
-pub mod Notes
+pub mod Checker
+pub mod Marks
+pub mod PrivateWords
 pub mod Reached
 pub mod Rules

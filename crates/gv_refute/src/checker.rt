@@ -13,7 +13,8 @@
 ghost use Rattle.std.specs.Prelude.{◌≡◌, ◌↔◌, ◌+◌, ◌*◌, ◌<◌, ◌≤◌, ◌^◌, ◌++◌, true, false, None, length, take, drop, IsTrue, IfSome, MatchBool, MatchOption, slice_get, slice_index_or, option_map, replicate};
 ghost use Rattle.gv_logic.specs.Partial.{is_true, all_false, unit_after};
 ghost use Rattle.gv_logic.specs.Logs.{Step as LogStep, refuted, follows, step_clauses, HasList, set_clause, offs, least_set, ProvesNone, ProvesLeast};
-ghost use Rattle.gv_refute.specs.Judged.{Judges, Starts};
+ghost use Rattle.gv_refute.specs.Checker.{Judges};
+ghost use Rattle.gv_refute.specs.PrivateWords.{Starts};
 
 use crate::{Log, Marks, Step};
 use gv_logic::{Bits, Clause, Clauses, Lit};

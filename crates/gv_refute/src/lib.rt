@@ -8,13 +8,13 @@
 #![tactic(auto)]
 
 mod checker;
-mod law;
+mod laws;
 mod log;
 mod marks;
 #[cfg(test)]
 mod tests;
 
 pub use checker::{Verdict, check, proves_least, proves_none};
-pub use law::{least_bits_law, rule_law, step_law};
+pub use laws::{least_bits_law, rule_law, step_law};
 pub use log::{Hints, Log, Step};
 pub use marks::Marks;

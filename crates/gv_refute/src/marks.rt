@@ -6,7 +6,7 @@
 
 ghost use Rattle.std.specs.Prelude.{◌≡◌, ◌*◌, false, true, List, Bool, length, replicate, slice_set, IfOk};
 ghost use Rattle.gv_logic.specs.Partial.{is_true};
-ghost use Rattle.gv_refute.specs.Notes.{IsNoted};
+ghost use Rattle.gv_refute.specs.Marks.{IsNoted};
 
 use gv_base::NoMemory;
 use gv_logic::Lit;
@@ -23,7 +23,7 @@ pub struct Marks {
 
 impl Model for Marks {
     ghost use Rattle.std.specs.Prelude.{◌≤◌, List, Bool, length, vec_capacity};
-    ghost use Rattle.gv_refute.specs.Notes.{IsNoted};
+    ghost use Rattle.gv_refute.specs.Marks.{IsNoted};
 
     ghost Value = { List Bool };
 

@@ -8,12 +8,12 @@ use Rattle.std.specs.Cmp.Lexicographic.{nat_list_cmp_total, options_total}
 use Rattle.std.specs.Ordering.{nat_cmp, on, ordering_reverse, then_cmp}
 use Rattle.std.proofs.lemmas.Cmp.{then_total, on_total, nat_cmp_total}
 use Rattle.gv_base.specs.Order.{byte_cmp}
-use Rattle.gv_version.specs.VersionOrder.{compare}
+use Rattle.gv_version.specs.Order.{compare}
 use Rattle.gv_version.specs.Total.{version_total}
 use Rattle.gv_report.specs.declared.report.Subject.{Subject}
 use Rattle.gv_report.specs.declared.report.Subject.TheVariants.{Place, Package}
-use Rattle.gv_report.specs.Keywords.{keyword_number}
-use Rattle.gv_report.specs.ReportOrder.{class_number, class_part, line_part, level_number, version_text, subject_cmp, context_cmp, kind_cmp, report_cmp, rest_cmp, whole_cmp}
+use Rattle.gv_report.specs.Keyword.{keyword_number}
+use Rattle.gv_report.specs.Order.{class_number, class_part, line_part, level_number, version_text, subject_cmp, context_cmp, kind_cmp, report_cmp, rest_cmp, whole_cmp}
 
 abbrev place_cmp : List ℕ × ℕ → List ℕ × ℕ → Ordering
 place_cmp = then_cmp (on (λ k. k.0) byte_cmp) (on (λ k. k.1) nat_cmp)

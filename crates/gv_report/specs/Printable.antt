@@ -27,9 +27,5 @@ is_printable_report r = is_printable_subject r.subject && (option_map_or is_prin
 abbrev pub are_printable : List Report → Bool
 are_printable reports = list_all is_printable_report reports
 
--- a line is written of every report, a JSON object of those whose texts are printable
-abbrev pub may_write_one : (json : Bool) → Report → Bool
-may_write_one json report = not json || is_printable_report report
-
 abbrev pub may_write : (json : Bool) → List Report → Bool
 may_write json reports = not json || are_printable reports

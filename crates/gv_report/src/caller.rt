@@ -3,7 +3,7 @@
 ghost use Rattle.std.specs.Prelude.{◌≡◌, true, IfOk};
 ghost use Rattle.gv_report.specs.Emitted.{emitted};
 ghost use Rattle.gv_report.specs.Printable.{may_write};
-ghost use Rattle.gv_report.specs.Selected.{selected};
+ghost use Rattle.gv_report.specs.Selecting.{selected};
 
 use crate::{Emitter, Options, Report, Reports, selected};
 use gv_base::{NoMemory, Text};

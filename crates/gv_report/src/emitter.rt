@@ -3,10 +3,11 @@
 //! `emit` costs O(bytes of the reports, and of the options for each), and a call of the test for each report.
 ghost use Rattle.std.specs.Prelude.{◌≡◌, ◌++◌, true, IfOk, OnOk};
 ghost use Rattle.gv_report.specs.Emitted.{emitted, report_text};
-ghost use Rattle.gv_report.specs.Printable.{may_write, may_write_one};
-ghost use Rattle.gv_report.specs.Selected.{selected};
-ghost use Rattle.gv_report.specs.Tells.{AnswersSelected};
-ghost use Rattle.gv_report.specs.Told.{options_of, test_of};
+ghost use Rattle.gv_report.specs.Printable.{may_write};
+ghost use Rattle.gv_report.specs.PrivateWords.{may_write_one};
+ghost use Rattle.gv_report.specs.Selecting.{selected};
+ghost use Rattle.gv_report.specs.StoredTest.{AnswersSelected};
+ghost use Rattle.gv_report.specs.Emitter.{options_of, test_of};
 
 use crate::{Options, Report, Reports};
 use gv_base::{NoMemory, Text};
@@ -24,7 +25,7 @@ pub struct Emitter<'a, F: Fn(&Report) -> bool> {
 }
 
 impl<'a, F: Fn(&Report) -> bool> Model for Emitter<'a, F> {
-    ghost use Rattle.gv_report.specs.Told.{Emitter};
+    ghost use Rattle.gv_report.specs.Emitter.{Emitter};
 
     ghost Value = { Emitter F };
 

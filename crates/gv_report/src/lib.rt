@@ -6,7 +6,7 @@
 //! - `keyword`: the kinds of reports.
 //! - `report`: a report, what it speaks of, and lists of them. Contracts see a report as a value; `telling` says so.
 //! - `order`: the order of reports. A comparison costs O(bytes up to the first part that differs) and takes no memory.
-//! - `ordering`: reports in order, equal ones once. O(n log n) comparisons of n reports.
+//! - `distinct`: reports in order, equal ones once. O(n log n) comparisons of n reports.
 //! - `options`, `selecting`: which reports are selected.
 //! - `line`, `json`: the two texts of a report. O(bytes). `printable`: which reports may be written as JSON.
 //! - `emitter`: the text of the reports that a stored test takes.
@@ -15,6 +15,7 @@
 #![tactic(auto)]
 
 mod caller;
+mod distinct;
 mod emitter;
 mod json;
 mod keyword;
@@ -22,7 +23,6 @@ mod laws;
 mod line;
 mod options;
 mod order;
-mod ordering;
 mod printable;
 mod report;
 mod selecting;
@@ -30,10 +30,10 @@ mod telling;
 #[cfg(test)]
 mod tests;
 
+pub use distinct::ordered;
 pub use emitter::Emitter;
 pub use keyword::{Keyword, Keywords};
 pub use laws::{line_law, object_law, order_law, ordered_law, selected_law};
 pub use options::Options;
-pub use ordering::ordered;
 pub use report::{ContextName, Report, Reports, Subject};
 pub use selecting::selected;

@@ -1,7 +1,7 @@
 //! The line of a report. O(bytes).
 ghost use Rattle.std.specs.Prelude.{◌≡◌, ◌++◌, OnOk, Option, Some, option_map, codes, decimal};
 ghost use Rattle.gv_facts.specs.Classes.{class_text};
-ghost use Rattle.gv_report.specs.ReportText.{context_text, level_text, part_text, report_line, subject_text, use_text};
+ghost use Rattle.gv_report.specs.Line.{context_text, level_text, part_text, report_line, subject_text, use_text};
 
 use crate::{ContextName, Report, Subject};
 use gv_base::{NoMemory, Text};

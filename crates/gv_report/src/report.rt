@@ -55,27 +55,6 @@ pub struct Report {
     pub detail: Option<Text>,
 }
 
-fn copy_text(alloc: Global, text: &Option<Text>) -> Result<Option<Text>, NoMemory>
-    ensures { IfOk result (λ copy. copy ≡ text.now) }
-{
-    match text {
-        None => Ok(None),
-        Some(text) => Ok(Some(text.copy(alloc)?)),
-    }
-}
-
-fn copy_context(
-    alloc: Global,
-    context: &Option<ContextName>,
-) -> Result<Option<ContextName>, NoMemory>
-    ensures { IfOk result (λ copy. copy ≡ context.now) }
-{
-    match context {
-        None => Ok(None),
-        Some(context) => Ok(Some(context.copy(alloc)?)),
-    }
-}
-
 impl Subject {
     /// An equal subject.
     pub fn copy(&self, alloc: Global) -> Result<Subject, NoMemory>
@@ -195,5 +174,26 @@ impl Reports {
             reports.add(item.copy(alloc)?)?;
         }
         Ok(reports)
+    }
+}
+
+fn copy_text(alloc: Global, text: &Option<Text>) -> Result<Option<Text>, NoMemory>
+    ensures { IfOk result (λ copy. copy ≡ text.now) }
+{
+    match text {
+        None => Ok(None),
+        Some(text) => Ok(Some(text.copy(alloc)?)),
+    }
+}
+
+fn copy_context(
+    alloc: Global,
+    context: &Option<ContextName>,
+) -> Result<Option<ContextName>, NoMemory>
+    ensures { IfOk result (λ copy. copy ≡ context.now) }
+{
+    match context {
+        None => Ok(None),
+        Some(context) => Ok(Some(context.copy(alloc)?)),
     }
 }

@@ -16,8 +16,8 @@ use Rattle.gv_load.specs.declared.faults.LoadFault.{LoadFault}
 use Rattle.gv_load.specs.declared.faults.LoadFault.TheVariants as loads
 use Rattle.gv_load.specs.declared.loading.Repo.{Repo}
 use Rattle.gv_report.specs.Emitted.{emitted, reports_text}
-use Rattle.gv_report.specs.Ordered.{ordered}
-use Rattle.gv_report.specs.Selected.{selected}
+use Rattle.gv_report.specs.Distinct.{ordered}
+use Rattle.gv_report.specs.Selecting.{selected}
 use Rattle.gv_report.specs.declared.options.Options.{Options}
 use Rattle.gv_report.specs.declared.report.Report.{Report}
 use Rattle.gv_session.specs.Handing.{HandsJudge, HandsLoad}

@@ -38,18 +38,6 @@ pub(crate) fn load_edited<T: Tree>(
     load(alloc, &mut edited)
 }
 
-// The text of the reports that the options select. JSON is written of printable texts alone, as all reports of a loaded
-// repository have; where one weren't so, memory is said to be wanting.
-fn text_of(alloc: Global, options: &Options, reports: &Reports) -> Result<Text, NoMemory>
-    ensures { IfOk result (λ text. text ≡ emitted options.now reports.now) }
-{
-    if options.json && !reports.are_printable() {
-        return Err(NoMemory);
-    }
-    let test = |report: &Report| selected(options, report);
-    Emitter::new(options, test).emit(alloc, reports)
-}
-
 /// The text of the scan of a repository, of which no answers are known.
 #[tactic(auto, using(crate::proofs::SessionLemmas::is_text))]
 pub(crate) fn judge_text<L: Ledger>(
@@ -64,4 +52,16 @@ pub(crate) fn judge_text<L: Ledger>(
     selected_law();
     let judged = judge(alloc, repo, options, &Known::new(alloc), steps)?;
     Ok(text_of(alloc, options, &judged.reports)?)
+}
+
+// The text of the reports that the options select. JSON is written of printable texts alone, as all reports of a loaded
+// repository have; where one weren't so, memory is said to be wanting.
+fn text_of(alloc: Global, options: &Options, reports: &Reports) -> Result<Text, NoMemory>
+    ensures { IfOk result (λ text. text ≡ emitted options.now reports.now) }
+{
+    if options.json && !reports.are_printable() {
+        return Err(NoMemory);
+    }
+    let test = |report: &Report| selected(options, report);
+    Emitter::new(options, test).emit(alloc, reports)
 }

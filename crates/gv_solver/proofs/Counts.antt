@@ -10,16 +10,16 @@ use Rattle.gv_logic.specs.Formulas.{Formula}
 use Rattle.gv_logic.specs.Literals.{opposite}
 use Rattle.gv_logic.specs.Partial.{is_true, trues, Has}
 use Rattle.gv_solver.specs.Clash.{Derived}
-use Rattle.gv_solver.specs.Counts.{one, is_level, at_level, waiting, IsCountedBy, IsCounted, Counts, CountsClause, Notes, Chooses, PassesCounted}
+use Rattle.gv_solver.specs.LevelCounts.{one, is_level, at_level, waiting, IsCountedBy, IsCounted, Counts, CountsClause, Notes, Chooses, PassesCounted}
 use Rattle.gv_solver.specs.Marks.{Below}
-use Rattle.gv_solver.specs.Points.{NeedsRest, NeedsClause}
-use Rattle.gv_solver.specs.Rests.{reasons}
+use Rattle.gv_solver.specs.Point.{NeedsRest, NeedsClause}
+use Rattle.gv_solver.specs.Resting.{reasons}
 use Rattle.gv_solver.specs.Search.{IsLateAt}
 use Rattle.gv_solver.specs.declared.point.Way.{Way}
 use Rattle.gv_trail.specs.Derived.{HasReason, IsReason, IsDerived, IsTrail}
 use Rattle.gv_trail.specs.Entries.{Entry, State, assignment, lits_of, made_true, reason_of, level_of, level_after, AreLevels}
-use Rattle.gv_trail.specs.Told.{IsFalseAt}
-use Rattle.gv_trail.specs.Watching.{IsIn}
+use Rattle.gv_trail.specs.Propagation.{IsFalseAt}
+use Rattle.gv_trail.specs.Watches.{IsIn}
 use Rattle.gv_solver.proofs.Core.{none_true, set_here, set_keeps, opposite_twice}
 use Rattle.gv_solver.proofs.Derive.{below_made}
 use Rattle.gv_solver.proofs.Grow.{long}

@@ -13,7 +13,7 @@ use Rattle.gv_solver.specs.Marks.{Below}
 use Rattle.gv_solver.specs.Puts.{Grows, Settles}
 use Rattle.gv_solver.specs.Search.{IsAssigned, IsLeast, IsOrdered, AreFree, Ready, IsSearch, IsSearched}
 use Rattle.gv_trail.specs.Derived.{IsDerived, IsTrail}
-use Rattle.gv_trail.specs.Told.{AreForced}
+use Rattle.gv_trail.specs.Propagation.{AreForced}
 use Rattle.gv_trail.specs.Entries.{Entry, State, assignment, made_true}
 use Rattle.gv_trail.specs.declared.propagation.Propagation.{Propagation}
 use Rattle.gv_solver.proofs.Core.{set_here, unit_from, quiet_at, opposite_even}

@@ -3,10 +3,9 @@ use Rattle.std.proofs.Common.{◌≡◌, inl, ℕ, ◌*◌, ◌≤◌, Bool, Opt
 use Rattle.gv_logic.specs.Formulas.{Formula}
 use Rattle.gv_logic.specs.Logs.{Step, step_clauses}
 use Rattle.gv_logic.specs.Partial.{AllQuiet}
-use Rattle.gv_logic.specs.Kept.{Clashes}
 use Rattle.gv_trail.specs.Entries.{Entry, State, assignment, level_after, AreLevels}
-use Rattle.gv_trail.specs.Told.{IsFalseAt}
-use Rattle.gv_solver.specs.Clash.{AreAmong}
+use Rattle.gv_trail.specs.Propagation.{IsFalseAt}
+use Rattle.gv_solver.specs.Clash.{AreAmong, Clashes}
 use Rattle.gv_trail.specs.Derived.{IsTrail}
 use Rattle.gv_solver.specs.Work.{IsWork, Lesson}
 use Rattle.gv_solver.specs.Rounds.{IsModel, IsRefuted}

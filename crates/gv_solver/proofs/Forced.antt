@@ -4,11 +4,11 @@ use Rattle.std.specs.Prelude.{slice_get, slice_set, replicate}
 use Rattle.std.proofs.lemmas.Bool.{cases_lt}
 use Rattle.std.proofs.lemmas.List.{map-append}
 use Rattle.gv_logic.specs.Formulas.{Formula}
-use Rattle.gv_logic.specs.Kept.{IsRising, Clashes, AllOff}
+use Rattle.gv_logic.specs.Kept.{IsRising, AllOff}
 use Rattle.gv_logic.specs.Logs.{with_unit as made, Step, started, last_is_false, unit_of, and_then, refuted, follows, step_clauses, set_clause, HasList, offs, least_set}
 use Rattle.gv_logic.specs.Partial.{is_true, unit_after, Has, AllQuiet, IsProper}
 use Rattle.gv_solver.specs.Found.{bits_to}
-use Rattle.gv_solver.specs.Clash.{Derived}
+use Rattle.gv_solver.specs.Clash.{Derived, Clashes}
 use Rattle.gv_solver.specs.Marks.{Below}
 use Rattle.gv_solver.specs.Proving.{Proves}
 use Rattle.gv_solver.specs.Search.{IsAssigned, IsOrdered}

@@ -10,7 +10,7 @@ use Rattle.gv_logic.specs.Logs.{Step, IsValid, step_clauses, set_clause, HasList
 use Rattle.gv_logic.specs.Partial.{Has}
 use Rattle.gv_solver.specs.declared.answer.Answer.{Answer}
 use Rattle.gv_solver.specs.declared.answer.Answer.TheVariants.{Refuted, Found, Spent}
-use Rattle.gv_solver.specs.Answers.{RefutesGates, FindsLeast, SpendsBudget, Answers}
+use Rattle.gv_solver.specs.Answer.{RefutesGates, FindsLeast, SpendsBudget, Answers}
 use Rattle.gv_solver.specs.Found.{IsAnswer, IsRefutation, IsLeastModel, IsSpent}
 use Rattle.gv_solver.specs.Work.{AreNewSets}
 use Rattle.gv_solver.proofs.Forced.{length-bits}

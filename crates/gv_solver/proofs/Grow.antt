@@ -10,7 +10,7 @@ use Rattle.gv_logic.specs.Partial.{is_true, Has, AllQuiet}
 use Rattle.gv_trail.specs.declared.propagation.Propagation.{Propagation}
 use Rattle.gv_trail.specs.Entries.{Entry, State, assignment, made_true, front_to, AreLevels, level_after}
 use Rattle.gv_trail.specs.Derived.{IsTrail}
-use Rattle.gv_trail.specs.Told.{Tells, AreForced, Propagates}
+use Rattle.gv_trail.specs.Propagation.{Tells, AreForced, Propagates}
 use Rattle.gv_solver.specs.Marks.{Below}
 use Rattle.gv_solver.specs.Clash.{AreAmong}
 use Rattle.gv_solver.specs.Puts.{Grows, Settles, Rewinds}

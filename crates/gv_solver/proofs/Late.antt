@@ -9,8 +9,8 @@ use Rattle.gv_solver.specs.Search.{NoneFalse, Began, TellsBegan, IsLateAt}
 use Rattle.gv_trail.specs.declared.propagation.Propagation.{Propagation}
 use Rattle.gv_trail.specs.declared.propagation.Propagation.TheVariants.{Fixed, Conflict}
 use Rattle.gv_trail.specs.Entries.{Entry, State, assignment, made_true}
-use Rattle.gv_trail.specs.Told.{AreForced, IsFalseAt}
-use Rattle.gv_trail.specs.Watching.{IsIn}
+use Rattle.gv_trail.specs.Propagation.{AreForced, IsFalseAt}
+use Rattle.gv_trail.specs.Watches.{IsIn}
 use Rattle.gv_solver.proofs.Core.{opposite_twice}
 use Rattle.gv_solver.proofs.Counts.{entry_of}
 use Rattle.gv_solver.proofs.Grow.{made_cat}

@@ -10,16 +10,16 @@ use Rattle.gv_logic.specs.Formulas.{Formula}
 use Rattle.gv_logic.specs.Literals.{opposite}
 use Rattle.gv_logic.specs.Logs.{Step, started, follows}
 use Rattle.gv_logic.specs.Partial.{is_true, all_false, Has, IsProper}
-use Rattle.gv_solver.specs.Counts.{Notes}
+use Rattle.gv_solver.specs.LevelCounts.{Notes}
 use Rattle.gv_solver.specs.Marks.{Below}
-use Rattle.gv_solver.specs.Points.{hints_back, IsBetween, IsBack, IsWay, Needs, NeedsRest, NeedsClause, Passes}
-use Rattle.gv_solver.specs.Rests.{reasons}
+use Rattle.gv_solver.specs.Point.{hints_back, IsBetween, IsBack, IsWay, Needs, NeedsRest, NeedsClause, Passes}
+use Rattle.gv_solver.specs.Resting.{reasons}
 use Rattle.gv_solver.specs.Work.{Lesson}
 use Rattle.gv_solver.specs.declared.point.Way.{Way}
 use Rattle.gv_trail.specs.Derived.{HasReason, IsReason, IsNext, IsDerived, IsTrail}
 use Rattle.gv_trail.specs.Entries.{Entry, State, assignment, lits_of, made_true, reason_of}
-use Rattle.gv_trail.specs.Told.{IsFalseAt}
-use Rattle.gv_trail.specs.Watching.{IsIn}
+use Rattle.gv_trail.specs.Propagation.{IsFalseAt}
+use Rattle.gv_trail.specs.Watches.{IsIn}
 use Rattle.gv_solver.proofs.Core.{below_trans, below_set, below_none, none_true, set_is, set_here, set_below, opposite_twice, unit_from}
 use Rattle.gv_solver.proofs.Derive.{below_made, refuted_more, refuted_last}
 use Rattle.gv_solver.proofs.Grow.{long, rest_at}

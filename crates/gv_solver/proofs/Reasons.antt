@@ -8,7 +8,7 @@ use Rattle.gv_trail.specs.Entries.{Entry, State, lits_of, reason_of}
 use Rattle.gv_trail.specs.Derived.{IsDerived}
 use Rattle.gv_solver.specs.Clash.{Derived}
 use Rattle.gv_solver.specs.Replay.{replay, replay_by}
-use Rattle.gv_solver.specs.Rests.{needed, needed_by, rests, rests_by, against_clause, reasons, rests_on}
+use Rattle.gv_solver.specs.Resting.{needed, needed_by, rests, rests_by, against_clause, reasons, rests_on}
 use Rattle.gv_solver.proofs.Core.{set_here, set_keeps}
 
 other : (a b : ℕ) → (a ≡ b → ⊥) → nat_eq a b ≡ false

@@ -8,13 +8,13 @@ use Rattle.gv_logic.specs.Literals.{opposite}
 use Rattle.gv_logic.specs.Logs.{Step, set_clause}
 use Rattle.gv_logic.specs.Partial.{is_true, all_false, Has}
 use Rattle.gv_solver.specs.Clash.{decided, decided_or}
-use Rattle.gv_solver.specs.Counts.{one, is_level, at_level}
+use Rattle.gv_solver.specs.LevelCounts.{one, is_level, at_level}
 use Rattle.gv_solver.specs.Marks.{Below}
 use Rattle.gv_solver.specs.Work.{IsOpenStep}
 use Rattle.gv_solver.specs.Search.{IsLeast, IsOrdered, IsSearch, IsSearched, Ready, IsSameWay, NoneFalse, Began, TakesBack}
 use Rattle.gv_trail.specs.Derived.{IsDerived, IsTrail}
 use Rattle.gv_trail.specs.Entries.{Entry, State, assignment, made_true, front_to, level_of, level_after, AreLevels}
-use Rattle.gv_trail.specs.Watching.{IsIn}
+use Rattle.gv_trail.specs.Watches.{IsIn}
 use Rattle.gv_solver.proofs.Core.{below_refl, set_here, none_true, all_false_more, opposite_even, opposite_odd}
 use Rattle.gv_solver.proofs.Counts.{entry_of, same_variable, has_at, all_has}
 use Rattle.gv_solver.proofs.Derive.{below_made}

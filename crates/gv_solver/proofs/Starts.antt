@@ -10,7 +10,7 @@ use Rattle.gv_logic.specs.Partial.{is_true, IsProper}
 use Rattle.gv_solver.specs.Clash.{IsClash, Derived}
 use Rattle.gv_solver.specs.Marks.{marked, Below}
 use Rattle.gv_solver.specs.Replay.{replay, replay_by}
-use Rattle.gv_solver.specs.Rests.{reasons}
+use Rattle.gv_solver.specs.Resting.{reasons}
 use Rattle.gv_trail.specs.Entries.{State, assignment, lits_of}
 use Rattle.gv_solver.proofs.Core.{below_refl, below_trans, below_set, below_none, set_is, set_here, proper_set, proper_none, opposite_even, opposite_odd}
 use Rattle.gv_solver.proofs.Reasons.{replay_same}

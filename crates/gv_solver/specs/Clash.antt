@@ -1,11 +1,15 @@
 -- What a trail shows of a set: words of private functions.
 use Rattle.std.specs.Prelude.{◌≡◌, ◌⊎◌, ℕ, ◌+◌, ◌*◌, true, false, Option, Some, None, List, [], ◌∷◌, ◌/◌, replicate}
 use Rattle.std.specs.List.{AllByRecursion}
-use Rattle.gv_logic.specs.Kept.{IsOpen, Clashes, IsTight, IsRising}
+use Rattle.gv_logic.specs.Kept.{IsOpen, IsTight, IsRising}
 use Rattle.gv_logic.specs.Partial.{is_true, Has}
 use Rattle.gv_trail.specs.Entries.{Entry, State, assignment}
 use Rattle.gv_trail.specs.Derived.{IsDerived}
-use Rattle.gv_trail.specs.Told.{IsFalseAt}
+use Rattle.gv_trail.specs.Propagation.{IsFalseAt}
+
+-- The set clashes with the clauses.
+abbrev pub Clashes : List ℕ → List (List ℕ) → Type 0
+Clashes set cs = IsOpen set cs → ⊥
 
 -- each decision puts a member off
 abbrev pub AreAmong : List ℕ → List Entry → Type 0

@@ -5,7 +5,7 @@ use Rattle.gv_logic.specs.Formulas.{Formula}
 use Rattle.gv_logic.specs.Kept.{IsRising}
 use Rattle.gv_logic.specs.Logs.{Step, IsValid, ProvesNone, ProvesLeast, HasList, step_clauses, set_clause}
 use Rattle.gv_logic.specs.Partial.{is_true, AllQuiet, IsProper}
-use Rattle.gv_solver.specs.Answers.{IsShort}
+use Rattle.gv_solver.specs.Answer.{IsShort}
 use Rattle.gv_solver.specs.Search.{IsAssigned}
 use Rattle.gv_solver.specs.Work.{AreNewSets}
 use Rattle.gv_solver.specs.declared.answer.Answer.{Answer}

@@ -1,7 +1,7 @@
 -- The steps that prove bits least: words of private functions.
 use Rattle.std.specs.Prelude.{◌≡◌, ℕ, ◌+◌, ◌<◌, ◌≤◌, Bool, true, false, List, ◌++◌, length, slice_index_or}
 use Rattle.gv_logic.specs.Formulas.{Formula}
-use Rattle.gv_logic.specs.Kept.{Clashes}
+use Rattle.gv_solver.specs.Clash.{Clashes}
 use Rattle.gv_trail.specs.Entries.{State, assignment}
 use Rattle.gv_solver.specs.Found.{bits_to}
 use Rattle.gv_logic.specs.Logs.{Step, IsValid, step_clauses, HasList, set_clause, least_set}

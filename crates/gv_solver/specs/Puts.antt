@@ -5,7 +5,7 @@ use Rattle.gv_logic.specs.Kept.{IsWithin}
 use Rattle.gv_trail.specs.declared.propagation.Propagation.{Propagation}
 use Rattle.gv_trail.specs.Entries.{Entry, State, assignment}
 use Rattle.gv_trail.specs.Derived.{IsTrail}
-use Rattle.gv_trail.specs.Told.{Tells, AreForced}
+use Rattle.gv_trail.specs.Propagation.{Tells, AreForced}
 use Rattle.gv_solver.specs.Marks.{Below}
 use Rattle.gv_solver.specs.Clash.{AreAmong}
 

@@ -9,8 +9,8 @@ use Rattle.gv_trail.specs.declared.propagation.Propagation.{Propagation}
 use Rattle.gv_trail.specs.declared.propagation.Propagation.TheVariants.{Fixed, Conflict}
 use Rattle.gv_trail.specs.Entries.{Entry, State, assignment, made_true, front_to}
 use Rattle.gv_trail.specs.Derived.{IsTrail}
-use Rattle.gv_trail.specs.Told.{IsFalseAt}
-use Rattle.gv_trail.specs.Watching.{IsIn}
+use Rattle.gv_trail.specs.Propagation.{IsFalseAt}
+use Rattle.gv_trail.specs.Watches.{IsIn}
 use Rattle.gv_solver.specs.Clash.{decided}
 
 abbrev pub IsAssigned : List Bool → ℕ → Type 0

@@ -2,7 +2,8 @@
 use Rattle.std.specs.Prelude.{◌≡◌, ℕ, ◌+◌, ◌*◌, ◌<◌, ◌≤◌, Bool, true, false, List, [], ◌∷◌, ◌++◌, length}
 use Rattle.std.specs.List.{AllByRecursion}
 use Rattle.gv_logic.specs.Formulas.{Formula}
-use Rattle.gv_logic.specs.Kept.{IsWithin, IsTight, IsRising, Clashes, set_clauses}
+use Rattle.gv_logic.specs.Kept.{IsWithin, IsTight, IsRising, set_clauses}
+use Rattle.gv_solver.specs.Clash.{Clashes}
 use Rattle.gv_logic.specs.Logs.{Step, IsValid, HasList, follows, step_clauses, set_clause}
 use Rattle.gv_logic.specs.Partial.{all_false}
 use Rattle.gv_solver.specs.Search.{AreFree}

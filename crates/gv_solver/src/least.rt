@@ -16,6 +16,24 @@ use gv_refute::Log;
 use gv_trail::Trail;
 use std::alloc::Global;
 
+/// The bits of a trail that leaves no clause false or unit. They are the least, and the steps that
+/// prove it are added to the log.
+pub(crate) fn least_bits(
+    alloc: Global,
+    trail: &mut Trail,
+    clauses: &Clauses,
+    log: &mut Log,
+    inputs: u32,
+) -> Result<Bits, NoMemory>
+    requires ready { Ready clauses.now inputs trail.old }
+    requires model { IsModel clauses.now.clauses inputs trail.old }
+    ensures { IfOk result (λ bits. AreLeastBits clauses.now inputs trail.old bits log.old log.new) }
+{
+    let bits = bits_of(alloc, trail, inputs)?;
+    prove_least(alloc, trail, clauses, log, bits.items(), inputs)?;
+    Ok(bits)
+}
+
 // The bits of the inputs.
 fn bits_of(alloc: Global, trail: &Trail, inputs: u32) -> Result<Bits, NoMemory>
     requires { inputs ≤ 2 ^ 30 }
@@ -75,22 +93,4 @@ fn prove_least(
         log.add(step)?;
     }
     Ok(())
-}
-
-/// The bits of a trail that leaves no clause false or unit. They are the least, and the steps that
-/// prove it are added to the log.
-pub(crate) fn least_bits(
-    alloc: Global,
-    trail: &mut Trail,
-    clauses: &Clauses,
-    log: &mut Log,
-    inputs: u32,
-) -> Result<Bits, NoMemory>
-    requires ready { Ready clauses.now inputs trail.old }
-    requires model { IsModel clauses.now.clauses inputs trail.old }
-    ensures { IfOk result (λ bits. AreLeastBits clauses.now inputs trail.old bits log.old log.new) }
-{
-    let bits = bits_of(alloc, trail, inputs)?;
-    prove_least(alloc, trail, clauses, log, bits.items(), inputs)?;
-    Ok(bits)
 }

@@ -15,7 +15,7 @@
 #![tactic(auto)]
 
 mod answer;
-mod law;
+mod laws;
 mod least;
 mod marks;
 mod point;
@@ -30,6 +30,6 @@ mod steps;
 mod tests;
 
 pub use answer::Answer;
-pub use law::{backed_law, kept_bound_law};
+pub use laws::{backed_law, kept_bound_law};
 pub use sets::{FlagSet, FlagSets};
 pub use solver::solve;

@@ -4,13 +4,13 @@
 
 ghost use Rattle.std.specs.Prelude.{◌≡◌, ◌*◌, [], ◌∷◌, ◌<◌, ◌↔◌, false, length, replicate, slice_get, IsSome, IfOk, IfSome, OnOk};
 ghost use Rattle.gv_logic.specs.Literals.{opposite};
-ghost use Rattle.gv_solver.specs.Counts.{is_level, at_level, Counts, CountsClause, Notes, Points, Chooses, PassesCounted};
-ghost use Rattle.gv_solver.specs.Points.{hints_back, IsSameClause, Needs, NeedsAll, NeedsClause, Passes};
+ghost use Rattle.gv_solver.specs.LevelCounts.{is_level, at_level, Counts, CountsClause, Notes, Points, Chooses, PassesCounted};
+ghost use Rattle.gv_solver.specs.Point.{hints_back, IsSameClause, Needs, NeedsAll, NeedsClause, Passes};
 ghost use Rattle.gv_solver.specs.Search.{IsLateAt};
 ghost use Rattle.gv_solver.specs.Work.{Lesson};
 ghost use Rattle.gv_trail.specs.Derived.{IsTrail};
 ghost use Rattle.gv_trail.specs.Entries.{assignment, level_of, reason_of};
-ghost use Rattle.gv_trail.specs.Told.{IsFalseAt};
+ghost use Rattle.gv_trail.specs.Propagation.{IsFalseAt};
 
 use crate::marks::{mark, unmarked};
 use gv_base::NoMemory;

@@ -4,12 +4,12 @@
 
 ghost use Rattle.std.specs.Prelude.{◌≡◌, ◌+◌, ◌*◌, ◌<◌, ◌≤◌, ◌^◌, ◌∷◌, [], ℕ, true, false, IfOk, OnOk};
 ghost use Rattle.std.specs.List.{AllByRecursion};
-ghost use Rattle.gv_logic.specs.Kept.{AllOff, Clashes, IsRising};
+ghost use Rattle.gv_logic.specs.Kept.{AllOff, IsRising};
 ghost use Rattle.gv_logic.specs.Logs.{follows, set_clause};
 ghost use Rattle.gv_logic.specs.Partial.{is_true, Has};
 ghost use Rattle.gv_trail.specs.Derived.{IsTrail};
 ghost use Rattle.gv_trail.specs.Entries.{assignment};
-ghost use Rattle.gv_solver.specs.Clash.{Drops, Says};
+ghost use Rattle.gv_solver.specs.Clash.{Drops, Says, Clashes};
 ghost use Rattle.gv_solver.specs.Puts.{Grows, Settles, Rewinds};
 ghost use Rattle.gv_solver.specs.Search.{Ready};
 
@@ -34,6 +34,54 @@ pub(crate) fn rewind(trail: &mut Trail, clauses: &Clauses)
     ensures { Rewinds clauses.now trail.old trail.new }
 {
     trail.back_to(0);
+}
+
+/// Drops each member without which the others still clash, in order.
+pub(crate) fn drop_members(
+    trail: &mut Trail,
+    clauses: &Clauses,
+    set: &mut Vec<u32>,
+) -> Result<(), NoMemory>
+    requires over { IsTrail clauses.now trail.old }
+    requires few { trail.old.variables ≤ 2 ^ 30 }
+    requires range { AllByRecursion (λ i. i < trail.old.variables) set.old.items }
+    requires clash { Clashes set.old.items clauses.now.clauses }
+    ensures over { IsTrail clauses.now trail.new }
+    ensures drops { OnOk result (Drops clauses.now.clauses set.old.items set.new.items) }
+{
+    let mut i = 0;
+    while i < set.len() {
+        let member = set.remove(i);
+        match probe(trail, clauses, set) {
+            Some(_) => {}
+            None => {
+                set.insert(i, member)?;
+                i += 1;
+            }
+        }
+    }
+    Ok(())
+}
+
+/// The step of a set that clashes, found by propagation.
+pub(crate) fn refute(
+    alloc: Global,
+    trail: &mut Trail,
+    clauses: &Clauses,
+    inputs: u32,
+    set: &[u32],
+) -> Result<Step, NoMemory>
+    requires ready { Ready clauses.now inputs trail.old }
+    requires rising { IsRising 0 inputs set.now }
+    requires clash { Clashes set.now clauses.now.clauses }
+    ensures ready { Ready clauses.now inputs trail.new }
+    ensures clause { IfOk result (λ step. step.clause ≡ set_clause set.now) }
+    ensures step_follows { IfOk result (λ step. follows (2 * clauses.now.variables) clauses.now.clauses step.clause step.hints ≡ true) }
+{
+    match probe(trail, clauses, set) {
+        Some(last) => step_of(alloc, trail, clauses.variables(), set, last),
+        None => unreachable!(),
+    }
 }
 
 // Puts an input off, unless it is assigned; says whether it is off.
@@ -89,53 +137,5 @@ fn probe(trail: &mut Trail, clauses: &Clauses, set: &[u32]) -> Option<u32>
     match settle(trail, clauses) {
         Propagation::Fixed => None,
         Propagation::Conflict { clause } => Some(clause),
-    }
-}
-
-/// Drops each member without which the others still clash, in order.
-pub(crate) fn drop_members(
-    trail: &mut Trail,
-    clauses: &Clauses,
-    set: &mut Vec<u32>,
-) -> Result<(), NoMemory>
-    requires over { IsTrail clauses.now trail.old }
-    requires few { trail.old.variables ≤ 2 ^ 30 }
-    requires range { AllByRecursion (λ i. i < trail.old.variables) set.old.items }
-    requires clash { Clashes set.old.items clauses.now.clauses }
-    ensures over { IsTrail clauses.now trail.new }
-    ensures drops { OnOk result (Drops clauses.now.clauses set.old.items set.new.items) }
-{
-    let mut i = 0;
-    while i < set.len() {
-        let member = set.remove(i);
-        match probe(trail, clauses, set) {
-            Some(_) => {}
-            None => {
-                set.insert(i, member)?;
-                i += 1;
-            }
-        }
-    }
-    Ok(())
-}
-
-/// The step of a set that clashes, found by propagation.
-pub(crate) fn refute(
-    alloc: Global,
-    trail: &mut Trail,
-    clauses: &Clauses,
-    inputs: u32,
-    set: &[u32],
-) -> Result<Step, NoMemory>
-    requires ready { Ready clauses.now inputs trail.old }
-    requires rising { IsRising 0 inputs set.now }
-    requires clash { Clashes set.now clauses.now.clauses }
-    ensures ready { Ready clauses.now inputs trail.new }
-    ensures clause { IfOk result (λ step. step.clause ≡ set_clause set.now) }
-    ensures step_follows { IfOk result (λ step. follows (2 * clauses.now.variables) clauses.now.clauses step.clause step.hints ≡ true) }
-{
-    match probe(trail, clauses, set) {
-        Some(last) => step_of(alloc, trail, clauses.variables(), set, last),
-        None => unreachable!(),
     }
 }

@@ -3,13 +3,29 @@
 
 ghost use Rattle.std.specs.Prelude.{◌≡◌, IfOk, slice_get};
 ghost use Rattle.gv_trail.specs.Entries.{lits_of};
-ghost use Rattle.gv_solver.specs.Rests.{marked_against, against_clause, needed_at, needed_by, rests_by, rests_on, reasons};
+ghost use Rattle.gv_solver.specs.Resting.{marked_against, against_clause, needed_at, needed_by, rests_by, rests_on, reasons};
 
 use crate::marks::{mark, unmarked};
 use gv_base::NoMemory;
 use gv_logic::{Clauses, Lit, is_on};
 use gv_trail::Trail;
 use std::alloc::Global;
+
+/// The inputs whose decisions the false clause of this number rests on.
+pub(crate) fn resting(
+    alloc: Global,
+    trail: &Trail,
+    clauses: &Clauses,
+    conflict: u32,
+) -> Result<Vec<u32>, NoMemory>
+    requires { trail.now.variables ≡ clauses.now.variables }
+    ensures { IfOk result (λ set. set.items ≡ rests_on clauses.now.clauses trail.now conflict) }
+{
+    let mut marks = unmarked(alloc, clauses.variables())?;
+    mark_clause(&mut marks, clauses, conflict);
+    mark_needed(&mut marks, clauses, trail);
+    marked_decisions(alloc, &marks, trail)
+}
 
 // Marks the opposites of the literals.
 fn mark_against(marks: &mut Vec<bool>, lits: &[Lit])
@@ -63,20 +79,4 @@ fn marked_decisions(alloc: Global, marks: &[bool], trail: &Trail) -> Result<Vec<
         }
     }
     Ok(set)
-}
-
-/// The inputs whose decisions the false clause of this number rests on.
-pub(crate) fn resting(
-    alloc: Global,
-    trail: &Trail,
-    clauses: &Clauses,
-    conflict: u32,
-) -> Result<Vec<u32>, NoMemory>
-    requires { trail.now.variables ≡ clauses.now.variables }
-    ensures { IfOk result (λ set. set.items ≡ rests_on clauses.now.clauses trail.now conflict) }
-{
-    let mut marks = unmarked(alloc, clauses.variables())?;
-    mark_clause(&mut marks, clauses, conflict);
-    mark_needed(&mut marks, clauses, trail);
-    marked_decisions(alloc, &marks, trail)
 }

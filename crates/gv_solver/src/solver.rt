@@ -4,7 +4,7 @@ ghost use Rattle.std.specs.Prelude.{◌≡◌, ◌<◌, ◌≤◌, ◌^◌, IfOk
 ghost use Rattle.gv_base.specs.Steps.{after};
 ghost use Rattle.gv_base.specs.declared.steps.Kind.TheVariants.{Solve};
 ghost use Rattle.gv_logic.specs.Encoding.{formula_of};
-ghost use Rattle.gv_solver.specs.Answers.{Answers};
+ghost use Rattle.gv_solver.specs.Answer.{Answers};
 ghost use Rattle.gv_solver.specs.Found.{IsAnswer};
 ghost use Rattle.gv_solver.specs.Search.{Ready};
 

@@ -7,7 +7,7 @@ ghost use Rattle.gv_logic.specs.Logs.{follows, set_clause};
 ghost use Rattle.gv_trail.specs.Entries.{lits_of};
 ghost use Rattle.gv_solver.specs.Clash.{Derived, IsClash};
 ghost use Rattle.gv_solver.specs.Replay.{replay_by};
-ghost use Rattle.gv_solver.specs.Rests.{reasons};
+ghost use Rattle.gv_solver.specs.Resting.{reasons};
 
 use crate::marks::{mark, marks_off};
 use gv_base::NoMemory;
@@ -26,27 +26,6 @@ pub(crate) fn clause_of(alloc: Global, set: &[u32]) -> Result<Clause, NoMemory>
         clause.add(Lit(2 * *member))?;
     }
     Ok(clause)
-}
-
-// The hints by which a clause follows, from the partial assignment that makes it false.
-fn replayed(alloc: Global, trail: &Trail, on: &mut Vec<bool>, last: u32) -> Result<Hints, NoMemory>
-    ensures { IfOk result (λ hints. hints ≡ replay_by (reasons trail.now) on.old.items (lits_of trail.now.entries) last) }
-{
-    let mut hints = Hints::new(alloc);
-    for lit in trail.assigned() {
-        if let Some(reason) = trail.reason(*lit) {
-            if is_on(on, lit.opposite()) {
-                hints.add(reason)?;
-                return Ok(hints);
-            }
-            if !is_on(on, *lit) {
-                mark(on, *lit);
-                hints.add(reason)?;
-            }
-        }
-    }
-    hints.add(last)?;
-    Ok(hints)
 }
 
 /// The step of a set that clashes as the trail shows, `last` being the clause that is false.
@@ -68,4 +47,25 @@ pub(crate) fn step_of(
     let hints = replayed(alloc, trail, &mut on, last)?;
     let clause = clause_of(alloc, set)?;
     Ok(Step { clause, hints })
+}
+
+// The hints by which a clause follows, from the partial assignment that makes it false.
+fn replayed(alloc: Global, trail: &Trail, on: &mut Vec<bool>, last: u32) -> Result<Hints, NoMemory>
+    ensures { IfOk result (λ hints. hints ≡ replay_by (reasons trail.now) on.old.items (lits_of trail.now.entries) last) }
+{
+    let mut hints = Hints::new(alloc);
+    for lit in trail.assigned() {
+        if let Some(reason) = trail.reason(*lit) {
+            if is_on(on, lit.opposite()) {
+                hints.add(reason)?;
+                return Ok(hints);
+            }
+            if !is_on(on, *lit) {
+                mark(on, *lit);
+                hints.add(reason)?;
+            }
+        }
+    }
+    hints.add(last)?;
+    Ok(hints)
 }

@@ -4,7 +4,7 @@ use Rattle.std.specs.Prelude.{slice_set, replicate}
 use Rattle.std.proofs.Math.Seq.{take-length}
 use Rattle.std.proofs.lemmas.Grind.{get_or_default_zero}
 use Rattle.gv_trail.specs.declared.cause.Cause.{Cause}
-use Rattle.gv_trail.specs.Causes.{cause_at, entry_of, entries_of}
+use Rattle.gv_trail.specs.Cause.{cause_at, entry_of, entries_of}
 use Rattle.gv_trail.specs.Entries.{made_true, front_to, AreLevels}
 use Rattle.gv_trail.specs.Marks.{AreFresh}
 use Rattle.gv_trail.proofs.Entries.{entries_next}

@@ -7,7 +7,7 @@ use Rattle.std.proofs.lemmas.Grind.{common_steps}
 use Rattle.gv_logic.specs.Literals.{opposite}
 use Rattle.gv_logic.specs.Partial.{is_true, Has}
 use Rattle.gv_trail.specs.declared.cause.Cause.{Cause}
-use Rattle.gv_trail.specs.Causes.{cause_at, entry_of, entries_of}
+use Rattle.gv_trail.specs.Cause.{cause_at, entry_of, entries_of}
 use Rattle.gv_trail.specs.Entries.{Entry, made_true, lits_of, reason_of, level_of, value_of}
 use Rattle.gv_trail.specs.Marks.{AreFresh}
 use Rattle.gv_trail.proofs.Proper.{same_variable, set_is, set_keeps, set_here, no_, none_true, same_half}

@@ -5,7 +5,7 @@ use Rattle.std.proofs.Math.ListN.{length-set}
 use Rattle.gv_logic.specs.Literals.{opposite}
 use Rattle.gv_logic.specs.Partial.{is_true}
 use Rattle.gv_trail.specs.declared.cause.Cause.{Cause}
-use Rattle.gv_trail.specs.Causes.{entries_of}
+use Rattle.gv_trail.specs.Cause.{entries_of}
 use Rattle.gv_trail.specs.Entries.{Entry, made_true, AreLevels, level_after}
 use Rattle.gv_trail.specs.Marks.{AreFresh}
 use Rattle.gv_trail.proofs.Entries.{entries_push, apart}

@@ -10,7 +10,7 @@ use Rattle.gv_logic.specs.Partial.{is_true, all_false, unit_after, is_other, All
 use Rattle.gv_trail.specs.declared.look.Look.TheVariants.{Quiet, AllFalse, OneLeft}
 use Rattle.gv_trail.specs.Entries.{Entry, made_true}
 use Rattle.gv_trail.specs.Marks.{AreFresh}
-use Rattle.gv_trail.specs.Looks.{look_after}
+use Rattle.gv_trail.specs.Look.{look_after}
 use Rattle.gv_trail.proofs.Proper.{proper_set}
 
 is_off : (on : List Bool) (l : ℕ) → IsProper on → is_true on l ≡ true → is_true on (opposite l) ≡ false

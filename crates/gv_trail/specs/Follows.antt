@@ -8,11 +8,11 @@ use Rattle.gv_trail.specs.declared.look.Picked.{Picked}
 use Rattle.gv_trail.specs.declared.propagation.Sweep.{Sweep}
 use Rattle.gv_trail.specs.declared.propagation.Sweep.TheVariants.{Nothing, Falsified, Assigned}
 use Rattle.gv_trail.specs.Links.{Links, Watched, list_of, added, idle, requeued}
-use Rattle.gv_trail.specs.Looks.{open_to}
+use Rattle.gv_trail.specs.Look.{open_to}
 use Rattle.gv_trail.specs.Entries.{Entry, State, assignment, lits_of}
 use Rattle.gv_trail.specs.Derived.{IsTrail, front}
-use Rattle.gv_trail.specs.Told.{Propagates, IsFalseAt}
-use Rattle.gv_trail.specs.Watching.{lit_at}
+use Rattle.gv_trail.specs.Propagation.{Propagates, IsFalseAt}
+use Rattle.gv_trail.specs.Watches.{lit_at}
 
 abbrev pub rewatched : State → Watched → State
 rewatched s w = record { variables = s.variables; entries = s.entries; level = s.level; watched = w }

@@ -1,9 +1,9 @@
 -- What is kept between the fields of a trail: its model and its invariant.
 use Rattle.std.specs.Prelude.{◌≡◌, ◌<◌, ◌≤◌, ◌*◌, ◌^◌, false, length, replicate, vec_capacity}
 use Rattle.gv_trail.specs.declared.trail.Trail.TheInside.{Inside}
-use Rattle.gv_trail.specs.Causes.{entries_of}
+use Rattle.gv_trail.specs.Cause.{entries_of}
 use Rattle.gv_trail.specs.Entries.{State, made_true, AreLevels}
-use Rattle.gv_trail.specs.Linking.{links_of}
+use Rattle.gv_trail.specs.WatchFields.{links_of}
 use Rattle.gv_trail.specs.Marks.{AreFresh}
 
 abbrev pub state_of : Inside → State

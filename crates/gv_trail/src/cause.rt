@@ -1,7 +1,7 @@
 //! Why a variable is assigned, and how assignments are taken back.
 
 ghost use Rattle.std.specs.Prelude.{◌≡◌, ◌*◌, ◌/◌, ℕ, false, length, take, replicate, slice_set};
-ghost use Rattle.gv_trail.specs.Causes.{cause_at, entries_of};
+ghost use Rattle.gv_trail.specs.Cause.{cause_at, entries_of};
 ghost use Rattle.gv_trail.specs.Entries.{AreLevels, made_true, front_to};
 ghost use Rattle.gv_trail.specs.Marks.{AreFresh};
 
@@ -28,14 +28,6 @@ pub(crate) fn cause_of(causes: &[Cause], lit: Lit) -> Cause
     }
 }
 
-fn unmark(on: &mut Vec<bool>, lit: Lit)
-    ensures { on.new.items ≡ slice_set on.old.items lit false }
-{
-    if (lit.0 as usize) < on.len() {
-        on[lit.0 as usize] = false;
-    }
-}
-
 /// Unmarks the literals at the end that stand above a level, and says how many are left.
 pub(crate) fn take_back(on: &mut Vec<bool>, lits: &[Lit], causes: &[Cause], level: u32) -> usize
     requires marked { on.old.items ≡ made_true (replicate (2 * length causes.now) false) (entries_of causes.now lits.now) }
@@ -54,4 +46,12 @@ pub(crate) fn take_back(on: &mut Vec<bool>, lits: &[Lit], causes: &[Cause], leve
         left -= 1;
     }
     0
+}
+
+fn unmark(on: &mut Vec<bool>, lit: Lit)
+    ensures { on.new.items ≡ slice_set on.old.items lit false }
+{
+    if (lit.0 as usize) < on.len() {
+        on[lit.0 as usize] = false;
+    }
 }

@@ -2,7 +2,7 @@
 
 ghost use Rattle.std.specs.Prelude.{◌≡◌, None, IfSome};
 ghost use Rattle.gv_logic.specs.Partial.{Has};
-ghost use Rattle.gv_trail.specs.Looks.{look_after, open_other, IsOther, IsPicked};
+ghost use Rattle.gv_trail.specs.Look.{look_after, open_other, IsOther, IsPicked};
 
 use crate::cause::{Cause, cause_of};
 use gv_logic::{Lit, is_on};
@@ -53,6 +53,24 @@ pub(crate) fn find_open(on: &[bool], but: Lit, lits: &[Lit]) -> Option<Lit>
     None
 }
 
+/// Two literals that differ.
+#[derive(Clone, Copy, Drop)]
+pub(crate) struct Picked {
+    pub(crate) first: Lit,
+    pub(crate) second: Lit,
+}
+
+/// Two literals to watch, those that aren't false first, then those that became so at the highest
+/// level; none where no two differ.
+pub(crate) fn pick(on: &[bool], causes: &[Cause], lits: &[Lit]) -> Option<Picked>
+    ensures { IfSome result (IsPicked lits.now) }
+{
+    if lits.is_empty() {
+        return None;
+    }
+    pick_beside(on, causes, lits, lits[0])
+}
+
 // The one of the literals, but for one, that was assigned at the highest level.
 fn find_latest(causes: &[Cause], but: Lit, lits: &[Lit]) -> Option<Lit>
     ensures { IfSome result (IsOther but lits.now) }
@@ -71,13 +89,6 @@ fn find_latest(causes: &[Cause], but: Lit, lits: &[Lit]) -> Option<Lit>
         latest = Some(*lit);
     }
     latest
-}
-
-/// Two literals that differ.
-#[derive(Clone, Copy, Drop)]
-pub(crate) struct Picked {
-    pub(crate) first: Lit,
-    pub(crate) second: Lit,
 }
 
 // A literal, and the latest of the others.
@@ -106,15 +117,4 @@ fn pick_beside(on: &[bool], causes: &[Cause], lits: &[Lit], first: Lit) -> Optio
         },
         None => pick_latest(causes, lits, first),
     }
-}
-
-/// Two literals to watch, those that aren't false first, then those that became so at the highest
-/// level; none where no two differ.
-pub(crate) fn pick(on: &[bool], causes: &[Cause], lits: &[Lit]) -> Option<Picked>
-    ensures { IfSome result (IsPicked lits.now) }
-{
-    if lits.is_empty() {
-        return None;
-    }
-    pick_beside(on, causes, lits, lits[0])
 }

@@ -7,9 +7,9 @@ ghost use Rattle.gv_logic.specs.Partial.{is_true};
 ghost use Rattle.gv_trail.specs.Entries.{assignment, lits_of, reason_of, level_of, value_of, front_to, level_after};
 ghost use Rattle.gv_trail.specs.Derived.{IsTrail, front};
 ghost use Rattle.gv_trail.specs.Links.{IsLinked, requeued, taken};
-ghost use Rattle.gv_trail.specs.Looks.{open_other, open_to};
-ghost use Rattle.gv_trail.specs.Told.{Tells, Propagates};
-ghost use Rattle.gv_trail.specs.Watching.{lit_at};
+ghost use Rattle.gv_trail.specs.Look.{open_other, open_to};
+ghost use Rattle.gv_trail.specs.Propagation.{Tells, Propagates};
+ghost use Rattle.gv_trail.specs.Watches.{lit_at};
 ghost use Rattle.gv_trail.specs.Follows.{relinked, watching, holding_apart, advanced, sure_after, entry_at, Waits, Holds, Looks, Forces, Drains, Follows, Goes, Settles, Sweeps};
 
 use crate::Propagation;

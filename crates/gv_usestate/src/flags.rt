@@ -8,6 +8,18 @@ use gv_base::{NoMemory, Text, Texts};
 use gv_facts::{Pkg, Profile, ValueLists};
 use std::alloc::Global;
 
+/// The effective flags of the package (PMS chapter 11) in byte order, each once: its IUSE, IUSE_IMPLICIT, and the values
+/// of the variables that USE_EXPAND_IMPLICIT names: of those of USE_EXPAND with the name in small letters and `_` in
+/// front, of those of USE_EXPAND_UNPREFIXED as they stand.
+pub fn effective(alloc: Global, pkg: &Pkg, profile: &Profile) -> Result<Texts, NoMemory>
+    ensures value { IfOk result (λ flags. flags ≡ effective pkg.now profile.now) }
+    ensures ascends { IfOk result IsAscending }
+    ensures members { IfOk result (HaveSameTexts (flag_sources pkg.now profile.now)) }
+{
+    let flags = sources(alloc, pkg, profile)?;
+    flags.in_order(alloc)
+}
+
 // The name in small letters, `_` and the word.
 fn prefixed(alloc: Global, name: &Text, word: &Text) -> Result<Text, NoMemory>
     ensures { IfOk result (λ flag. flag ≡ prefixed name.now word.now) }
@@ -117,16 +129,4 @@ fn sources(alloc: Global, pkg: &Pkg, profile: &Profile) -> Result<Texts, NoMemor
     add_expanded(alloc, &mut flags, profile)?;
     add_unprefixed(alloc, &mut flags, profile)?;
     Ok(flags)
-}
-
-/// The effective flags of the package (PMS chapter 11) in byte order, each once: its IUSE, IUSE_IMPLICIT, and the values
-/// of the variables that USE_EXPAND_IMPLICIT names: of those of USE_EXPAND with the name in small letters and `_` in
-/// front, of those of USE_EXPAND_UNPREFIXED as they stand.
-pub fn effective(alloc: Global, pkg: &Pkg, profile: &Profile) -> Result<Texts, NoMemory>
-    ensures value { IfOk result (λ flags. flags ≡ effective pkg.now profile.now) }
-    ensures ascends { IfOk result IsAscending }
-    ensures members { IfOk result (HaveSameTexts (flag_sources pkg.now profile.now)) }
-{
-    let flags = sources(alloc, pkg, profile)?;
-    flags.in_order(alloc)
 }

@@ -19,18 +19,6 @@ use indexmap::IndexMap;
 use std::alloc::Global;
 use std::marker::Model;
 
-// The places of the rules that name each flag.
-fn by_flag<'a>(alloc: Global, rules: &'a Rules) -> Result<IndexMap<&'a [u8], &'a [u32]>, NoMemory>
-    ensures { IfOk result (λ places. HasRules places.entries rules.now) }
-{
-    let mut places = IndexMap::new(alloc);
-    for rule in rules.items() {
-        let flag = rule.flag.bytes();
-        places.insert(flag, rules.places_of(flag))?;
-    }
-    Ok(places)
-}
-
 /// A profile with the places of its rules that name each flag: made once for the profile, and asked for the states of the
 /// flags of every package at every level.
 #[derive(Drop)]
@@ -110,4 +98,16 @@ impl<'a> ProfileStates<'a> {
             FlagKind::Other => self.implicit_state(pkg, level, flag),
         }
     }
+}
+
+// The places of the rules that name each flag.
+fn by_flag<'a>(alloc: Global, rules: &'a Rules) -> Result<IndexMap<&'a [u8], &'a [u32]>, NoMemory>
+    ensures { IfOk result (λ places. HasRules places.entries rules.now) }
+{
+    let mut places = IndexMap::new(alloc);
+    for rule in rules.items() {
+        let flag = rule.flag.bytes();
+        places.insert(flag, rules.places_of(flag))?;
+    }
+    Ok(places)
 }

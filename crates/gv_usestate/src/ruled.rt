@@ -27,27 +27,6 @@ pub enum FlagKind {
     Other,
 }
 
-// Adds the flags that these rules name.
-fn add_rules<'a>(flags: &mut IndexSet<&'a [u8]>, rules: &'a Rules) -> Result<(), NoMemory>
-    ensures { OnOk result ((flag : List ℕ) → has_flag flags.new.keys flag ≡ (has_flag flags.old.keys flag || list_any (names_flag flag) rules.now)) }
-{
-    for rule in rules.items() {
-        flags.insert(rule.flag.bytes())?;
-    }
-    Ok(())
-}
-
-// The flags that rules of these profiles name.
-fn ruled_by<'a>(alloc: Global, profiles: &'a [Profile]) -> Result<IndexSet<&'a [u8]>, NoMemory>
-    ensures { IfOk result (λ flags. AreRuled flags.keys profiles.now) }
-{
-    let mut flags = IndexSet::new(alloc);
-    for profile in profiles {
-        add_rules(&mut flags, &profile.rules)?;
-    }
-    Ok(flags)
-}
-
 /// Profiles with the flags that their rules name: made once for the profiles, and asked of the flags of every package.
 #[derive(Drop)]
 pub struct RuledFlags<'a> {
@@ -96,3 +75,24 @@ impl<'a> RuledFlags<'a> {
 pub fn kind_law()
     ensures { (profiles : List Profile) (profile : Profile) (p : Pkg) (flag : List ℕ) → IsOneOf profiles profile → IsKind profile p flag (flag_kind profiles p flag) }
 {}
+
+// Adds the flags that these rules name.
+fn add_rules<'a>(flags: &mut IndexSet<&'a [u8]>, rules: &'a Rules) -> Result<(), NoMemory>
+    ensures { OnOk result ((flag : List ℕ) → has_flag flags.new.keys flag ≡ (has_flag flags.old.keys flag || list_any (names_flag flag) rules.now)) }
+{
+    for rule in rules.items() {
+        flags.insert(rule.flag.bytes())?;
+    }
+    Ok(())
+}
+
+// The flags that rules of these profiles name.
+fn ruled_by<'a>(alloc: Global, profiles: &'a [Profile]) -> Result<IndexSet<&'a [u8]>, NoMemory>
+    ensures { IfOk result (λ flags. AreRuled flags.keys profiles.now) }
+{
+    let mut flags = IndexSet::new(alloc);
+    for profile in profiles {
+        add_rules(&mut flags, &profile.rules)?;
+    }
+    Ok(flags)
+}

@@ -8,6 +8,20 @@ ghost use Rattle.gv_facts.specs.Effective.{is_effective, expand_flags, prefixed,
 use gv_base::Text;
 use gv_facts::{Pkg, Profile, ValueLists};
 
+/// Whether the flag is effective in the profile for a package that doesn't have it in IUSE.
+pub(crate) fn is_implicit(profile: &Profile, flag: &[u8]) -> bool
+    ensures { result ≡ has_text (profile.now.iuse_implicit ++ (expand_flags profile.now ++ unprefixed_flags profile.now)) flag.now }
+{
+    profile.iuse_implicit.has(flag) || has_expanded(profile, flag) || has_unprefixed(profile, flag)
+}
+
+/// Whether the flag is one of the package's effective flags.
+pub fn is_effective(pkg: &Pkg, profile: &Profile, flag: &[u8]) -> bool
+    ensures { result ≡ is_effective pkg.now profile.now flag.now }
+{
+    pkg.iuse.has(flag) || is_implicit(profile, flag)
+}
+
 // Whether a variable of this name has the word among its values.
 fn has_value(values: &ValueLists, name: &Text, word: &[u8]) -> bool
     ensures { result ≡ has_text (values_of values.now name.now) word.now }
@@ -69,18 +83,4 @@ fn has_unprefixed(profile: &Profile, flag: &[u8]) -> bool
         }
     }
     false
-}
-
-/// Whether the flag is effective in the profile for a package that doesn't have it in IUSE.
-pub(crate) fn is_implicit(profile: &Profile, flag: &[u8]) -> bool
-    ensures { result ≡ has_text (profile.now.iuse_implicit ++ (expand_flags profile.now ++ unprefixed_flags profile.now)) flag.now }
-{
-    profile.iuse_implicit.has(flag) || has_expanded(profile, flag) || has_unprefixed(profile, flag)
-}
-
-/// Whether the flag is one of the package's effective flags.
-pub fn is_effective(pkg: &Pkg, profile: &Profile, flag: &[u8]) -> bool
-    ensures { result ≡ is_effective pkg.now profile.now flag.now }
-{
-    pkg.iuse.has(flag) || is_implicit(profile, flag)
 }

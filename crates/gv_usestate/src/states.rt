@@ -12,6 +12,54 @@ use crate::sources::is_effective;
 use gv_base::Text;
 use gv_facts::{Effect, FlagState, Level, Pkg, Profile, Rule, matches_pkg};
 
+// Whether the flag is masked and whether it is forced.
+#[derive(Clone, Copy)]
+struct Effects {
+    mask: bool,
+    force: bool,
+}
+
+/// The state of an effective flag, by the places of the rules that name it.
+pub(crate) fn effective_state(
+    pkg: &Pkg,
+    profile: &Profile,
+    level: Level,
+    flag: &[u8],
+    places: &[u32],
+) -> FlagState
+    requires effective { is_effective pkg.now profile.now flag.now ≡ true }
+    requires places { AreRulesOf profile.now.rules flag.now places.now }
+    ensures { result ≡ state pkg.now profile.now level flag.now }
+{
+    let effects = flag_effects(pkg, profile, level, flag, places);
+    if effects.mask {
+        FlagState::Off
+    } else if effects.force {
+        FlagState::On
+    } else {
+        FlagState::Free
+    }
+}
+
+/// The state of the flag for the package in the profile, at this level: absent where it isn't effective, else masked,
+/// else forced, else free. Of the rules for one effect that apply to the package and name the flag the last decides.
+pub fn state(pkg: &Pkg, profile: &Profile, level: Level, flag: &Text) -> FlagState
+    ensures { result ≡ state pkg.now profile.now level flag.now }
+{
+    state_of(pkg, profile, level, flag.bytes())
+}
+
+/// The same of a flag by its bytes.
+pub fn state_of(pkg: &Pkg, profile: &Profile, level: Level, flag: &[u8]) -> FlagState
+    ensures { result ≡ state pkg.now profile.now level flag.now }
+{
+    if !is_effective(pkg, profile, flag) {
+        return FlagState::Absent;
+    }
+    let places = profile.rules.places_of(flag);
+    effective_state(pkg, profile, level, flag, places)
+}
+
 // Whether the rule is for the effect and applies to the package, for which stable restrictions apply or don't.
 fn counts(rule: &Rule, effect: Effect, pkg: &Pkg, restricted: bool) -> bool
     ensures { result ≡ counts effect pkg.now restricted rule.now }
@@ -40,13 +88,6 @@ fn on_behind(
         Some(rule) if counts(rule, effect, pkg, restricted) => rule.on,
         _ => on,
     }
-}
-
-// Whether the flag is masked and whether it is forced.
-#[derive(Clone, Copy)]
-struct Effects {
-    mask: bool,
-    force: bool,
 }
 
 // What is on behind the rules at these places.
@@ -106,45 +147,4 @@ fn flag_effects(pkg: &Pkg, profile: &Profile, level: Level, flag: &[u8], places:
     let rules = profile.rules.items();
     let restricted = restricts(rules, places, pkg, profile, level);
     effects_at(rules, places, pkg, restricted)
-}
-
-/// The state of an effective flag, by the places of the rules that name it.
-pub(crate) fn effective_state(
-    pkg: &Pkg,
-    profile: &Profile,
-    level: Level,
-    flag: &[u8],
-    places: &[u32],
-) -> FlagState
-    requires effective { is_effective pkg.now profile.now flag.now ≡ true }
-    requires places { AreRulesOf profile.now.rules flag.now places.now }
-    ensures { result ≡ state pkg.now profile.now level flag.now }
-{
-    let effects = flag_effects(pkg, profile, level, flag, places);
-    if effects.mask {
-        FlagState::Off
-    } else if effects.force {
-        FlagState::On
-    } else {
-        FlagState::Free
-    }
-}
-
-/// The state of the flag for the package in the profile, at this level: absent where it isn't effective, else masked,
-/// else forced, else free. Of the rules for one effect that apply to the package and name the flag the last decides.
-pub fn state(pkg: &Pkg, profile: &Profile, level: Level, flag: &Text) -> FlagState
-    ensures { result ≡ state pkg.now profile.now level flag.now }
-{
-    state_of(pkg, profile, level, flag.bytes())
-}
-
-/// The same of a flag by its bytes.
-pub fn state_of(pkg: &Pkg, profile: &Profile, level: Level, flag: &[u8]) -> FlagState
-    ensures { result ≡ state pkg.now profile.now level flag.now }
-{
-    if !is_effective(pkg, profile, flag) {
-        return FlagState::Absent;
-    }
-    let places = profile.rules.places_of(flag);
-    effective_state(pkg, profile, level, flag, places)
 }

@@ -8,9 +8,9 @@ use Rattle.std.proofs.lemmas.Bool.{false≢true}
 use Rattle.std.proofs.lemmas.Cmp.{nat_list_eq_equiv}
 use Rattle.gv_base.specs.Counts.{Counts}
 use Rattle.gv_base.specs.Order.{has_text}
-use Rattle.gv_cert.specs.AnswerBytes.{IsAnswer, claim_bytes}
+use Rattle.gv_cert.specs.Claim.{IsAnswer, claim_bytes}
 use Rattle.gv_cert.specs.Backing.{Backs}
-use Rattle.gv_cert.specs.Records.{HasQuery, KnownRecord, answer_at}
+use Rattle.gv_cert.specs.Known.{HasQuery, KnownRecord, answer_at}
 use Rattle.gv_load.specs.declared.loading.Repo.{Repo}
 use Rattle.gv_logic.specs.Bytes.{circuit_bytes}
 use Rattle.gv_logic.specs.Circuits.{Circuit, IsCircuit}
@@ -22,8 +22,8 @@ use Rattle.gv_checks.specs.Limits.{IsPast, IsWithin}
 use Rattle.gv_checks.specs.Queries.{Query, gates_of, queries}
 use Rattle.gv_checks.specs.RepoReports.{scan_text}
 use Rattle.gv_checks.specs.declared.whole.Judged.{Judged}
-use Rattle.gv_verify.specs.Differs.{AreApart}
-use Rattle.gv_verify.specs.Verified.{MayAccept, Verifies}
+use Rattle.gv_verify.specs.Differing.{AreApart}
+use Rattle.gv_verify.specs.Verifying.{MayAccept, Verifies}
 use Rattle.gv_verify.specs.declared.verifying.VerifyFault.{VerifyFault}
 use Rattle.gv_verify.specs.declared.verifying.VerifyFault.TheVariants.{NotBacked, NoSuchText, Limit, NoMemory}
 

@@ -1,6 +1,6 @@
 -- How far two texts agree.
 use Rattle.std.proofs.Common.{◌≡◌, ℕ, zero, suc, ◌+◌, ◌<◌, ◌≤◌, List, [], ◌∷◌, ◌++◌, length, take, drop, get_or, refl, sym, ap, ◌∙◌, arith}
-use Rattle.gv_verify.specs.Differs.{AreApart, DifferAt}
+use Rattle.gv_verify.specs.Differing.{AreApart, DifferAt}
 
 -- they agree up to here
 pub record Agree (one two : List ℕ) (n : ℕ) : Type 0 where

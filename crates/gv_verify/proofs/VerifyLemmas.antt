@@ -1,7 +1,7 @@
 -- From what the records say to the answer about a report.
 use Rattle.std.proofs.Common.{◌≡◌, ℕ, Bool, true, false, if◌then◌else◌, List, [], ◌∷◌, filter, refl, sym, ap, ◌∙◌}
 use Rattle.std.specs.Prelude.{Ok, Err}
-use Rattle.gv_cert.specs.Records.{KnownRecord}
+use Rattle.gv_cert.specs.Known.{KnownRecord}
 use Rattle.gv_checks.specs.Queries.{queries}
 use Rattle.gv_checks.specs.Recalled.{IsRecalled, NotRecalls}
 use Rattle.gv_checks.specs.RepoReports.{reports, scan_text}
@@ -10,12 +10,12 @@ use Rattle.gv_checks.specs.declared.recalled.RecallFault.TheVariants as recallin
 use Rattle.gv_checks.specs.declared.recalled.Recalled.{Recalled}
 use Rattle.gv_load.specs.declared.loading.Repo.{Repo}
 use Rattle.gv_report.specs.Emitted.{emitted, reports_text}
-use Rattle.gv_report.specs.Ordered.{ordered}
-use Rattle.gv_report.specs.Selected.{selected}
+use Rattle.gv_report.specs.Distinct.{ordered}
+use Rattle.gv_report.specs.Selecting.{selected}
 use Rattle.gv_report.specs.declared.options.Options.{Options}
 use Rattle.gv_report.specs.declared.report.Report.{Report}
-use Rattle.gv_verify.specs.Differs.{DifferAt}
-use Rattle.gv_verify.specs.Verified.{Hands, Verifies}
+use Rattle.gv_verify.specs.Differing.{DifferAt}
+use Rattle.gv_verify.specs.Verifying.{Hands, Verifies}
 use Rattle.gv_verify.specs.declared.verifying.VerifyFault.{VerifyFault}
 use Rattle.gv_verify.specs.declared.verifying.VerifyFault.TheVariants.{NotBacked, NoSuchText, Limit, NoMemory}
 

@@ -1,2 +1,2 @@
-pub mod Differs
-pub mod Verified
+pub mod Differing
+pub mod Verifying

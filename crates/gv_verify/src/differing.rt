@@ -1,6 +1,6 @@
 //! Where two texts differ. O(the bytes before).
 ghost use Rattle.std.specs.Prelude.{◌≡◌, MatchOption};
-ghost use Rattle.gv_verify.specs.Differs.{DifferAt};
+ghost use Rattle.gv_verify.specs.Differing.{DifferAt};
 
 /// The first place at which the texts differ; None exactly where they are the same.
 #[tactic(auto, using(crate::proofs::DifferLemmas::differ_here, crate::proofs::DifferLemmas::differ_longer, crate::proofs::DifferLemmas::differ_shorter, crate::proofs::DifferLemmas::all_same, crate::proofs::DifferLemmas::agree_more))]

@@ -2,14 +2,14 @@
 //! repositories, options and records.
 ghost use Rattle.std.specs.Prelude.{ℕ, List, Result, length};
 ghost use Rattle.gv_base.specs.Counts.{Counts};
-ghost use Rattle.gv_cert.specs.Records.{KnownRecord};
+ghost use Rattle.gv_cert.specs.Known.{KnownRecord};
 ghost use Rattle.gv_checks.specs.Answered.{IsJudged};
 ghost use Rattle.gv_checks.specs.Queries.{queries};
 ghost use Rattle.gv_checks.specs.RepoReports.{scan_text};
 ghost use Rattle.gv_checks.specs.declared.whole.Judged.{Judged};
 ghost use Rattle.gv_load.specs.declared.loading.Repo.{Repo};
 ghost use Rattle.gv_report.specs.declared.options.Options.{Options};
-ghost use Rattle.gv_verify.specs.Verified.{MayAccept, Verifies};
+ghost use Rattle.gv_verify.specs.Verifying.{MayAccept, Verifies};
 ghost use Rattle.gv_verify.specs.declared.verifying.VerifyFault.{VerifyFault};
 
 use gv_logic::circuit_law;

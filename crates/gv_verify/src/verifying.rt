@@ -1,7 +1,7 @@
 //! A report held against certificates.
 ghost use Rattle.std.specs.Prelude.{◌≡◌, IfOk};
 ghost use Rattle.gv_report.specs.Emitted.{emitted};
-ghost use Rattle.gv_verify.specs.Verified.{Hands, Verifies};
+ghost use Rattle.gv_verify.specs.Verifying.{Hands, Verifies};
 
 use crate::differing::first_difference;
 use gv_base::{Ledger, NoMemory, Steps, Text};
@@ -36,28 +36,6 @@ impl From<NoMemory> for VerifyFault {
     }
 }
 
-fn fault_of(fault: RecallFault) -> VerifyFault
-    ensures { Hands fault result }
-{
-    match fault {
-        RecallFault::NotBacked { query } => VerifyFault::NotBacked { query },
-        RecallFault::Limit { place, number } => VerifyFault::Limit { place, number },
-        RecallFault::NoMemory => VerifyFault::NoMemory,
-    }
-}
-
-// The text of the reports that the options select. JSON is written of printable texts alone, as all reports of a loaded
-// repository have; where one weren't so, memory is said to be wanting.
-fn text_of(alloc: Global, options: &Options, reports: &Reports) -> Result<Text, NoMemory>
-    ensures { IfOk result (λ text. text ≡ emitted options.now reports.now) }
-{
-    if options.json && !reports.are_printable() {
-        return Err(NoMemory);
-    }
-    let test = |report: &Report| selected(options, report);
-    Emitter::new(options, test).emit(alloc, reports)
-}
-
 /// The number of queries, where each of them has a backed record among the given ones and the report is the text of a
 /// scan. The queries are taken in their order: the first that is past a limit, or has no backed record, ends it. Each is
 /// lowered at most once, and none is solved.
@@ -85,4 +63,26 @@ pub fn verify<L: Ledger>(
             offset: offset as u64,
         }),
     }
+}
+
+fn fault_of(fault: RecallFault) -> VerifyFault
+    ensures { Hands fault result }
+{
+    match fault {
+        RecallFault::NotBacked { query } => VerifyFault::NotBacked { query },
+        RecallFault::Limit { place, number } => VerifyFault::Limit { place, number },
+        RecallFault::NoMemory => VerifyFault::NoMemory,
+    }
+}
+
+// The text of the reports that the options select. JSON is written of printable texts alone, as all reports of a loaded
+// repository have; where one weren't so, memory is said to be wanting.
+fn text_of(alloc: Global, options: &Options, reports: &Reports) -> Result<Text, NoMemory>
+    ensures { IfOk result (λ text. text ≡ emitted options.now reports.now) }
+{
+    if options.json && !reports.are_printable() {
+        return Err(NoMemory);
+    }
+    let test = |report: &Report| selected(options, report);
+    Emitter::new(options, test).emit(alloc, reports)
 }

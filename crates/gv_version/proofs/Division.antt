@@ -8,7 +8,7 @@ use Rattle.std.specs.Str.{byte}
 use Rattle.gv_version.specs.FormReading.{next, is_whole, run}
 use Rattle.gv_version.specs.Laws.{Divides, IsDivided}
 use Rattle.gv_version.specs.Names.{is_package, hyphen_from, split_pf}
-use Rattle.gv_version.specs.VersionForm.{has_form, long_run}
+use Rattle.gv_version.specs.Form.{has_form, long_run}
 use Rattle.gv_version.specs.declared.form.State.{State}
 use Rattle.gv_version.specs.declared.form.State.TheVariants.{Start, Number, Dot, Letter, Underscore, A, Al, Alp, Alph, B, Be, Bet, P, Pr, R, Suffix, SuffixNumber, Hyphen, HyphenR, Revision, Nothing}
 use Rattle.gv_version.proofs.FormLaw.{form_says, says_form}

@@ -15,9 +15,9 @@ use Rattle.gv_version.specs.Laws.{IsFronts}
 use Rattle.gv_version.specs.PieceReading.{cmp_piece, cmp_pieces, pieces_in}
 use Rattle.gv_version.specs.Total.{Key, key, cmp_key, key_total, later_is, are_digits, numbers_all}
 use Rattle.gv_version.specs.TotalDigits.{then_equal, is_less, is_equal, is_greater}
-use Rattle.gv_version.specs.VersionForm.{Parts, has_form, parts_of}
-use Rattle.gv_version.specs.VersionOrder.{number_of, rank, cmp_later, cmp_suffix, compare}
-use Rattle.gv_version.specs.VersionPieces.{Piece, first, later, letter, suffix, revision, number_pieces, pieces_of, agrees, is_front, begins}
+use Rattle.gv_version.specs.Form.{Parts, has_form, parts_of}
+use Rattle.gv_version.specs.Order.{number_of, rank, cmp_later, cmp_suffix, compare}
+use Rattle.gv_version.specs.Pieces.{Piece, first, later, letter, suffix, revision, number_pieces, pieces_of, agrees, is_front, begins}
 use Rattle.gv_version.specs.declared.pieces.Kind.{Kind}
 use Rattle.gv_version.proofs.OrderIs.{begins_itself}
 use Rattle.gv_version.proofs.OrderLaw.{pieces_cmp}

@@ -8,7 +8,7 @@ use Rattle.std.specs.declared.cmp.Ordering.{Ordering}
 use Rattle.std.specs.declared.cmp.Ordering.TheVariants.{Less, Equal, Greater}
 use Rattle.gv_version.specs.Bytes.{is_digit, begins_with, behind}
 use Rattle.gv_version.specs.TotalDigits.{is_less, is_equal, is_greater, then_equal, number_behind, digit_within, shorter}
-use Rattle.gv_version.specs.VersionOrder.{number_of, is_zero}
+use Rattle.gv_version.specs.Order.{number_of, is_zero}
 
 pub then_then : (o p q : Ordering) → ordering_then (ordering_then o p) q ≡ ordering_then o (ordering_then p q)
 then_then Less p q = refl

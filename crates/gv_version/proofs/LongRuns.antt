@@ -4,7 +4,7 @@ use Rattle.std.proofs.lemmas.Bool.{lt-ltb, le-ltb}
 use Rattle.std.proofs.lemmas.List.{drop-drop}
 use Rattle.std.specs.List.{prefix_len}
 use Rattle.gv_version.specs.Bytes.{is_digit}
-use Rattle.gv_version.specs.VersionForm.{long_run_from}
+use Rattle.gv_version.specs.Form.{long_run_from}
 
 one_on : (at : ℕ) (b : ℕ) (bs : List ℕ) → prefix_len is_digit (b ∷ bs) ≤ 18 → long_run_from at (b ∷ bs) ≡ long_run_from (at + 1) bs
 one_on at b bs le = rw (le-ltb 18 (prefix_len is_digit (b ∷ bs)) le) refl

@@ -4,7 +4,7 @@ use Rattle.std.proofs.lemmas.Bool.{false≢true, eq-eqb, ne_eqb, cases_lt}
 use Rattle.std.proofs.lemmas.List.{take_more, take-take, take-append-drop, take_all}
 use Rattle.std.specs.Prelude.{◌==◌}
 use Rattle.gv_version.specs.FormReading.{next, is_whole, run}
-use Rattle.gv_version.specs.VersionForm.{has_form, longest_form_within, longest_form}
+use Rattle.gv_version.specs.Form.{has_form, longest_form_within, longest_form}
 use Rattle.gv_version.specs.declared.form.State.{State}
 use Rattle.gv_version.specs.declared.form.State.TheVariants.{Start, Nothing}
 use Rattle.gv_version.proofs.StatesOfParts.{run-append}

@@ -10,9 +10,9 @@ use Rattle.std.specs.declared.cmp.Ordering.TheVariants.{Less, Equal, Greater}
 use Rattle.gv_version.specs.Bytes.{begins_with}
 use Rattle.gv_version.specs.Laws.{IsOrder, IsSameness}
 use Rattle.gv_version.specs.Total.{by_revision, keys_but_revision, keys_but_revision_total, numbers_all, but_revision_is, version_total}
-use Rattle.gv_version.specs.VersionForm.{parts_of}
-use Rattle.gv_version.specs.VersionOrder.{number_of, is_zero, stripped, rank, cmp_later, cmp_but_revision, compare, same_but_revision}
-use Rattle.gv_version.specs.VersionPieces.{Piece, first, later, letter, suffix, revision, pieces_of, agrees, is_front, begins}
+use Rattle.gv_version.specs.Form.{parts_of}
+use Rattle.gv_version.specs.Order.{number_of, is_zero, stripped, rank, cmp_later, cmp_but_revision, compare, same_but_revision}
+use Rattle.gv_version.specs.Pieces.{Piece, first, later, letter, suffix, revision, pieces_of, agrees, is_front, begins}
 
 same_is : (a b : List ℕ) → same_but_revision a b ≡ eq_by_cmp (on parts_of keys_but_revision) a b
 same_is a b = ap is_eq (but_revision_is (parts_of a) (parts_of b) (numbers_all a) (numbers_all b))

@@ -6,9 +6,9 @@ use Rattle.std.specs.Prelude.{◌==◌, is_none, option_to_list, option_map}
 use Rattle.std.specs.Ordering.{nat_cmp, ordering_then, ordering_reverse}
 use Rattle.std.specs.declared.cmp.Ordering.{Ordering}
 use Rattle.std.specs.declared.cmp.Ordering.TheVariants.{Less, Equal, Greater}
-use Rattle.gv_version.specs.VersionForm.{Parts, has_form, long_run, is_version, parts_of}
-use Rattle.gv_version.specs.VersionOrder.{number_of, rank, revision_number, cmp_later, cmp_laters, cmp_numbers, cmp_letters, cmp_suffix, cmp_suffixes, cmp_more, cmp_parts, compare}
-use Rattle.gv_version.specs.VersionPieces.{Piece, first, later, letter, revision, number_pieces, pieces_of}
+use Rattle.gv_version.specs.Form.{Parts, has_form, long_run, is_version, parts_of}
+use Rattle.gv_version.specs.Order.{number_of, rank, revision_number, cmp_later, cmp_laters, cmp_numbers, cmp_letters, cmp_suffix, cmp_suffixes, cmp_more, cmp_parts, compare}
+use Rattle.gv_version.specs.Pieces.{Piece, first, later, letter, revision, number_pieces, pieces_of}
 use Rattle.gv_version.specs.PieceReading.{cmp_pieces, pieces_in}
 use Rattle.gv_version.specs.declared.pieces.Kind.{Kind}
 use Rattle.gv_version.specs.TotalDigits.{then_equal}

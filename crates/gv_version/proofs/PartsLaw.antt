@@ -5,8 +5,8 @@ use Rattle.std.specs.Prelude.{◌==◌, is_none, flat_map, option_to_list, optio
 use Rattle.std.specs.Option.{option_map_or}
 use Rattle.std.specs.List.{list_all, join_with_byte}
 use Rattle.gv_version.specs.Bytes.{is_digit, is_small, begins_with, front, behind}
-use Rattle.gv_version.specs.VersionForm.{kind_text, Parts, suffix_text, revision_text, is_number, are_parts, HasForm, has_form, long_run, is_version, parts_of}
-use Rattle.gv_version.specs.VersionPieces.{Piece, first, later, letter, suffix, revision, pieces_of, is_front, begins}
+use Rattle.gv_version.specs.Form.{kind_text, Parts, suffix_text, revision_text, is_number, are_parts, HasForm, has_form, long_run, is_version, parts_of}
+use Rattle.gv_version.specs.Pieces.{Piece, first, later, letter, suffix, revision, pieces_of, is_front, begins}
 use Rattle.gv_version.specs.PieceReading.{next_suffix, next_revision, next_piece, pieces_in}
 use Rattle.gv_version.specs.declared.pieces.Kind.{Kind}
 use Rattle.gv_version.proofs.FormLaw.{front_ends, behind_ends, digits_of, digits_stop, kind_small, named_kind, form_says, read_parts}

@@ -8,7 +8,7 @@ use Rattle.gv_version.specs.Bytes.{is_digit, is_small}
 use Rattle.gv_version.specs.FormReading.{only, digit_only, after_part, after_number, after_underscore, after_suffix, next, is_whole, run}
 use Rattle.gv_version.specs.declared.pieces.Kind.{Kind}
 use Rattle.gv_version.specs.declared.pieces.Kind.TheVariants.{Alpha, Beta, Pre, Rc, Patch}
-use Rattle.gv_version.specs.VersionForm.{kind_text, Parts, suffix_text, revision_text, version_text, is_number, are_parts, has_form}
+use Rattle.gv_version.specs.Form.{kind_text, Parts, suffix_text, revision_text, version_text, is_number, are_parts, has_form}
 use Rattle.gv_version.specs.declared.form.State.{State}
 use Rattle.gv_version.specs.declared.form.State.TheVariants.{Start, Number, Dot, Letter, Underscore, A, Al, Alp, Alph, B, Be, Bet, P, Pr, R, Suffix, SuffixNumber, Hyphen, HyphenR, Revision, Nothing}
 use Rattle.gv_version.proofs.FormLaw.{says_form}

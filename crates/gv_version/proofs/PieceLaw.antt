@@ -6,8 +6,8 @@ use Rattle.std.specs.Borrow.{Bor}
 use Rattle.std.specs.List.{prefix_len}
 use Rattle.gv_version.specs.Bytes.{is_digit, is_small, front, behind}
 use Rattle.gv_version.specs.TotalDigits.{front_passes}
-use Rattle.gv_version.specs.VersionForm.{kind_named}
-use Rattle.gv_version.specs.VersionPieces.{Piece, first, later, letter, suffix, agrees, is_front}
+use Rattle.gv_version.specs.Form.{kind_named}
+use Rattle.gv_version.specs.Pieces.{Piece, first, later, letter, suffix, agrees, is_front}
 use Rattle.gv_version.specs.PieceReading.{shown_piece, shown, are_digits, next_suffix, next_revision, next_piece, pieces_within, pieces_in, cmp_piece, cmp_pieces}
 use Rattle.std.specs.declared.cmp.Ordering.{Ordering}
 use Rattle.std.specs.declared.cmp.Ordering.TheVariants.{Equal}

@@ -7,8 +7,8 @@ use Rattle.std.specs.Option.{option_map_or}
 use Rattle.std.specs.List.{list_all, join_with_byte}
 use Rattle.std.specs.Ordering.{is_eq}
 use Rattle.gv_version.specs.Bytes.{is_digit, is_small, front}
-use Rattle.gv_version.specs.VersionForm.{Parts, suffix_text, revision_text, version_text, is_number, are_numbers, are_parts, HasForm, has_form, is_version, is_number_byte, is_in_suffixes, parts_of}
-use Rattle.gv_version.specs.VersionOrder.{cmp_but_revision, cmp_parts, same_but_revision}
+use Rattle.gv_version.specs.Form.{Parts, suffix_text, revision_text, version_text, is_number, are_numbers, are_parts, HasForm, has_form, is_version, is_number_byte, is_in_suffixes, parts_of}
+use Rattle.gv_version.specs.Order.{cmp_but_revision, cmp_parts, same_but_revision}
 use Rattle.gv_version.specs.PieceReading.{cmp_pieces, pieces_in}
 use Rattle.gv_version.proofs.FormLaw.{front_ends, revision_stops, suffixes_in, joined_bytes, form_says, says_form, read_parts}
 use Rattle.gv_version.specs.TotalDigits.{then_equal}

@@ -8,7 +8,7 @@ use Rattle.gv_version.specs.Bytes.{is_digit, is_small}
 use Rattle.gv_version.specs.FormReading.{next, is_whole, run}
 use Rattle.gv_version.specs.declared.pieces.Kind.{Kind}
 use Rattle.gv_version.specs.declared.pieces.Kind.TheVariants.{Alpha, Beta, Pre, Rc, Patch}
-use Rattle.gv_version.specs.VersionForm.{kind_text, Parts, suffix_text, revision_text, is_number, are_parts, HasForm, has_form}
+use Rattle.gv_version.specs.Form.{kind_text, Parts, suffix_text, revision_text, is_number, are_parts, HasForm, has_form}
 use Rattle.gv_version.specs.declared.form.State.{State}
 use Rattle.gv_version.specs.declared.form.State.TheVariants.{Start, Number, Dot, Letter, Underscore, P, Suffix, SuffixNumber, Hyphen, HyphenR, Revision}
 use Rattle.gv_version.proofs.FormLaw.{form_says}

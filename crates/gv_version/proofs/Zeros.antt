@@ -4,7 +4,7 @@ use Rattle.std.proofs.lemmas.Bool.{and_right, ne_eqb}
 use Rattle.std.proofs.lemmas.List.{take_more}
 use Rattle.std.proofs.lemmas.List.Folds.{list_all-append}
 use Rattle.std.specs.List.{list_all}
-use Rattle.gv_version.specs.VersionOrder.{is_zero, stripped}
+use Rattle.gv_version.specs.Order.{is_zero, stripped}
 
 all_with : (xs : List ℕ) (b : ℕ) → list_all is_zero (xs ++ b ∷ []) ≡ (list_all is_zero xs && (is_zero b && true))
 all_with xs b = list_all-append is_zero xs (b ∷ [])

@@ -5,8 +5,8 @@ use Rattle.std.specs.Ordering.{is_le, ordering_reverse}
 use Rattle.std.specs.declared.cmp.Ordering.{Ordering}
 use Rattle.std.specs.declared.cmp.Ordering.TheVariants.{Equal}
 use Rattle.gv_version.specs.Names.{is_package, split_pf}
-use Rattle.gv_version.specs.VersionForm.{HasForm, has_form, is_version, long_run}
-use Rattle.gv_version.specs.VersionOrder.{compare}
+use Rattle.gv_version.specs.Form.{HasForm, has_form, is_version, long_run}
+use Rattle.gv_version.specs.Order.{compare}
 
 -- a total order up to versions that it calls equal, which are alike against every third
 pub record IsOrder (order : List ℕ → List ℕ → Ordering) : Type 0 where

@@ -8,9 +8,9 @@ use Rattle.std.specs.declared.cmp.Ordering.{Ordering}
 use Rattle.std.specs.declared.cmp.Ordering.TheVariants.{Equal, Greater}
 use Rattle.std.specs.Ordering.{nat_cmp, ordering_then, ordering_reverse}
 use Rattle.gv_version.specs.Bytes.{is_digit, is_small, front, behind}
-use Rattle.gv_version.specs.VersionForm.{kind_named}
-use Rattle.gv_version.specs.VersionOrder.{number_of, cmp_later, cmp_suffix, cmp_more}
-use Rattle.gv_version.specs.VersionPieces.{Piece, first, later, letter, suffix, revision}
+use Rattle.gv_version.specs.Form.{kind_named}
+use Rattle.gv_version.specs.Order.{number_of, cmp_later, cmp_suffix, cmp_more}
+use Rattle.gv_version.specs.Pieces.{Piece, first, later, letter, suffix, revision}
 use Rattle.gv_version.specs.declared.pieces.Piece as code
 use Rattle.gv_version.specs.declared.pieces.Piece.TheVariants as code_variants
 

@@ -12,8 +12,8 @@ use Rattle.std.specs.declared.cmp.Ordering.{Ordering}
 use Rattle.std.specs.declared.cmp.Ordering.TheVariants.{Less, Greater}
 use Rattle.gv_version.specs.Bytes.{is_digit, front}
 use Rattle.gv_version.specs.TotalDigits.{is_less, is_greater, then_equal, digit_within, shorter, front_passes}
-use Rattle.gv_version.specs.VersionForm.{Parts, is_number_byte, parts_of}
-use Rattle.gv_version.specs.VersionOrder.{number_of, is_zero, stripped, rank, revision_number, cmp_later, cmp_laters, cmp_numbers, cmp_letters, cmp_fewer, cmp_more, cmp_suffixes, cmp_but_revision, compare}
+use Rattle.gv_version.specs.Form.{Parts, is_number_byte, parts_of}
+use Rattle.gv_version.specs.Order.{number_of, is_zero, stripped, rank, revision_number, cmp_later, cmp_laters, cmp_numbers, cmp_letters, cmp_fewer, cmp_more, cmp_suffixes, cmp_but_revision, compare}
 use Rattle.gv_version.specs.declared.pieces.Kind.{Kind}
 use Rattle.gv_version.specs.declared.pieces.Kind.TheVariants.{Alpha, Beta, Pre, Rc, Patch}
 

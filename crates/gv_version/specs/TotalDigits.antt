@@ -9,7 +9,7 @@ use Rattle.std.specs.Ordering.{nat_cmp, ordering_then}
 use Rattle.std.specs.declared.cmp.Ordering.{Ordering}
 use Rattle.std.specs.declared.cmp.Ordering.TheVariants.{Less, Equal, Greater}
 use Rattle.gv_version.specs.Bytes.{is_digit, begins_with, front}
-use Rattle.gv_version.specs.VersionOrder.{number_of, is_zero}
+use Rattle.gv_version.specs.Order.{number_of, is_zero}
 
 pub is_less : (a b : ℕ) → a < b → nat_cmp a b ≡ Less
 is_less a b h = sym (nat_cmp_is a b Less h)

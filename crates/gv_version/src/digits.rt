@@ -4,7 +4,7 @@ ghost use Rattle.std.specs.Prelude.{◌≡◌, ◌≤◌, length, true};
 ghost use Rattle.std.specs.List.{list_all, prefix_len};
 ghost use Rattle.std.specs.Ordering.{nat_cmp};
 ghost use Rattle.gv_version.specs.Bytes.{behind, front, is_digit};
-ghost use Rattle.gv_version.specs.VersionOrder.{cmp_later, is_zero, number_of, stripped};
+ghost use Rattle.gv_version.specs.Order.{cmp_later, is_zero, number_of, stripped};
 
 use std::cmp::Ordering;
 
@@ -27,27 +27,6 @@ pub(crate) fn split_run(bytes: &[u8]) -> (&[u8], &[u8])
     ensures rest { result.1.now ≡ behind is_digit bytes.now }
 {
     bytes.split_at(run_length(bytes))
-}
-
-fn without_leading_zeros(digits: &[u8]) -> &[u8]
-    ensures { result.now ≡ behind is_zero digits.now }
-{
-    let mut rest = digits;
-    while let [b'0', more @ ..] = rest {
-        rest = more;
-    }
-    rest
-}
-
-#[tactic(auto, using(crate::proofs::Zeros::zero_at_end, crate::proofs::Zeros::no_zero_at_end))]
-fn without_trailing_zeros(digits: &[u8]) -> &[u8]
-    ensures { result.now ≡ stripped digits.now }
-{
-    let mut end = digits.len();
-    while end > 0 && digits[end - 1] == b'0' {
-        end -= 1;
-    }
-    &digits[..end]
 }
 
 /// Compares digits as integers: without leading zeros, the longer one is greater.
@@ -74,4 +53,25 @@ pub(crate) fn compare_later(x: &[u8], y: &[u8]) -> Ordering
     } else {
         compare_integers(x, y)
     }
+}
+
+fn without_leading_zeros(digits: &[u8]) -> &[u8]
+    ensures { result.now ≡ behind is_zero digits.now }
+{
+    let mut rest = digits;
+    while let [b'0', more @ ..] = rest {
+        rest = more;
+    }
+    rest
+}
+
+#[tactic(auto, using(crate::proofs::Zeros::zero_at_end, crate::proofs::Zeros::no_zero_at_end))]
+fn without_trailing_zeros(digits: &[u8]) -> &[u8]
+    ensures { result.now ≡ stripped digits.now }
+{
+    let mut end = digits.len();
+    while end > 0 && digits[end - 1] == b'0' {
+        end -= 1;
+    }
+    &digits[..end]
 }

@@ -4,7 +4,7 @@
 //! byte more than the longest front of the bytes that some version begins with; `long_run` is O(bytes).
 ghost use Rattle.std.specs.Prelude.{◌≡◌, ◌≤◌, length};
 ghost use Rattle.gv_version.specs.FormReading.{is_whole, next, digit_only, after_number, after_part, after_suffix, after_underscore, only};
-ghost use Rattle.gv_version.specs.VersionForm.{has_form, long_run, longest_form};
+ghost use Rattle.gv_version.specs.Form.{has_form, long_run, longest_form};
 
 use crate::digits::run_length;
 
@@ -35,69 +35,6 @@ pub(crate) enum State {
     HyphenR,
     Revision,
     Nothing,
-}
-
-fn only(wanted: u8, state: State, byte: u8) -> State
-    ensures { result ≡ only wanted state byte }
-{
-    if byte == wanted {
-        state
-    } else {
-        State::Nothing
-    }
-}
-
-fn digit_only(state: State, byte: u8) -> State
-    ensures { result ≡ digit_only state byte }
-{
-    if byte.is_ascii_digit() {
-        state
-    } else {
-        State::Nothing
-    }
-}
-
-// A suffix or a revision begins.
-fn after_part(byte: u8) -> State
-    ensures { result ≡ after_part byte }
-{
-    match byte {
-        b'_' => State::Underscore,
-        b'-' => State::Hyphen,
-        _ => State::Nothing,
-    }
-}
-
-fn after_number(byte: u8) -> State
-    ensures { result ≡ after_number byte }
-{
-    match byte {
-        b'0'..=b'9' => State::Number,
-        b'.' => State::Dot,
-        b'a'..=b'z' => State::Letter,
-        _ => after_part(byte),
-    }
-}
-
-fn after_underscore(byte: u8) -> State
-    ensures { result ≡ after_underscore byte }
-{
-    match byte {
-        b'a' => State::A,
-        b'b' => State::B,
-        b'p' => State::P,
-        b'r' => State::R,
-        _ => State::Nothing,
-    }
-}
-
-fn after_suffix(byte: u8) -> State
-    ensures { result ≡ after_suffix byte }
-{
-    match byte {
-        b'0'..=b'9' => State::SuffixNumber,
-        _ => after_part(byte),
-    }
 }
 
 impl State {
@@ -186,4 +123,67 @@ pub(crate) fn long_run(bytes: &[u8]) -> Option<usize>
         at += run + 1;
     }
     None
+}
+
+fn only(wanted: u8, state: State, byte: u8) -> State
+    ensures { result ≡ only wanted state byte }
+{
+    if byte == wanted {
+        state
+    } else {
+        State::Nothing
+    }
+}
+
+fn digit_only(state: State, byte: u8) -> State
+    ensures { result ≡ digit_only state byte }
+{
+    if byte.is_ascii_digit() {
+        state
+    } else {
+        State::Nothing
+    }
+}
+
+// A suffix or a revision begins.
+fn after_part(byte: u8) -> State
+    ensures { result ≡ after_part byte }
+{
+    match byte {
+        b'_' => State::Underscore,
+        b'-' => State::Hyphen,
+        _ => State::Nothing,
+    }
+}
+
+fn after_number(byte: u8) -> State
+    ensures { result ≡ after_number byte }
+{
+    match byte {
+        b'0'..=b'9' => State::Number,
+        b'.' => State::Dot,
+        b'a'..=b'z' => State::Letter,
+        _ => after_part(byte),
+    }
+}
+
+fn after_underscore(byte: u8) -> State
+    ensures { result ≡ after_underscore byte }
+{
+    match byte {
+        b'a' => State::A,
+        b'b' => State::B,
+        b'p' => State::P,
+        b'r' => State::R,
+        _ => State::Nothing,
+    }
+}
+
+fn after_suffix(byte: u8) -> State
+    ensures { result ≡ after_suffix byte }
+{
+    match byte {
+        b'0'..=b'9' => State::SuffixNumber,
+        _ => after_part(byte),
+    }
 }

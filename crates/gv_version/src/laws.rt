@@ -4,9 +4,9 @@ ghost use Rattle.std.specs.Prelude.{◌≡◌, ◌↔◌, ℕ, List, true};
 ghost use Rattle.std.specs.Cmp.{IsTotalOrder};
 ghost use Rattle.std.specs.declared.cmp.Ordering.TheVariants.{Equal};
 ghost use Rattle.gv_version.specs.Laws.{IsDivided, IsFronts, IsOrder, IsSameness};
-ghost use Rattle.gv_version.specs.VersionForm.{HasForm, has_form};
-ghost use Rattle.gv_version.specs.VersionOrder.{compare, same_but_revision};
-ghost use Rattle.gv_version.specs.VersionPieces.{begins};
+ghost use Rattle.gv_version.specs.Form.{HasForm, has_form};
+ghost use Rattle.gv_version.specs.Order.{compare, same_but_revision};
+ghost use Rattle.gv_version.specs.Pieces.{begins};
 
 /// The test of the form is true exactly where the bytes are the text of good parts.
 #[tactic(auto, using(crate::proofs::FormLaw::form_says, crate::proofs::FormLaw::says_form))]

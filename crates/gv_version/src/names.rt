@@ -6,6 +6,72 @@ ghost use Rattle.gv_version.specs.Names.{ends_in_version, hyphen_from, is_catego
 
 use crate::form::{has_form, long_run};
 
+/// Whether the bytes are a category: letters, digits and `+_.-`, of which `-`, `.` and `+` don't come first.
+pub fn is_category(bytes: &[u8]) -> bool
+    ensures { result ≡ is_category bytes.now }
+{
+    match bytes {
+        [] => false,
+        [first, ..] => { !matches!(*first, b'-' | b'.' | b'+') && has_category_bytes(bytes) }
+    }
+}
+
+/// Whether the bytes are a slot's name: the form of a category.
+pub fn is_slot(bytes: &[u8]) -> bool
+    ensures { result ≡ is_slot bytes.now }
+{
+    is_category(bytes)
+}
+
+/// Whether the bytes are a USE flag: letters, digits and `+_@-`, of which a letter or a digit comes first.
+pub fn is_flag(bytes: &[u8]) -> bool
+    ensures { result ≡ is_flag bytes.now }
+{
+    match bytes {
+        [] => false,
+        [first, ..] => is_letter_or_digit(*first) && has_flag_bytes(bytes),
+    }
+}
+
+/// Whether the bytes are a keyword's name: letters, digits and `_-`, of which `-` doesn't come first.
+pub fn is_keyword(bytes: &[u8]) -> bool
+    ensures { result ≡ is_keyword bytes.now }
+{
+    match bytes {
+        [] => false,
+        [first, ..] => *first != b'-' && has_keyword_bytes(bytes),
+    }
+}
+
+/// Whether the bytes are a package name: letters, digits and `+_-`, of which `-` and `+` don't come
+/// first, and no hyphen is followed by a text of version form, whatever the length of its runs of digits.
+pub fn is_package(bytes: &[u8]) -> bool
+    ensures { result ≡ is_package bytes.now }
+{
+    match bytes {
+        [] => false,
+        [first, ..] => {
+            !matches!(*first, b'-' | b'+') && has_package_bytes(bytes) && !ends_in_version(bytes)
+        }
+    }
+}
+
+/// The place of the hyphen by which the bytes are a package name, a hyphen and a version (a PF).
+/// None where there is no such hyphen, where a run of digits behind it is longer than 18, and where
+/// the place is past the room of lists, 2^32 bytes.
+pub fn split_pf(bytes: &[u8]) -> Option<u32>
+    ensures place { length bytes.now < 2 ^ 32 → result ≡ split_pf bytes.now }
+    ensures some { IfSome result (λ at. split_pf bytes.now ≡ Some at) }
+{
+    match hyphen_place(bytes) {
+        Some(at) => match long_run(&bytes[at + 1..]) {
+            Some(_) => None,
+            None => u32::try_from(at).ok(),
+        },
+        None => None,
+    }
+}
+
 fn is_letter_or_digit(b: u8) -> bool
     ensures { result ≡ is_letter_or_digit b }
 {
@@ -48,43 +114,6 @@ fn has_keyword_bytes(bytes: &[u8]) -> bool
     bytes.iter().all(|b| is_keyword_byte(*b))
 }
 
-/// Whether the bytes are a category: letters, digits and `+_.-`, of which `-`, `.` and `+` don't come first.
-pub fn is_category(bytes: &[u8]) -> bool
-    ensures { result ≡ is_category bytes.now }
-{
-    match bytes {
-        [] => false,
-        [first, ..] => { !matches!(*first, b'-' | b'.' | b'+') && has_category_bytes(bytes) }
-    }
-}
-
-/// Whether the bytes are a slot's name: the form of a category.
-pub fn is_slot(bytes: &[u8]) -> bool
-    ensures { result ≡ is_slot bytes.now }
-{
-    is_category(bytes)
-}
-
-/// Whether the bytes are a USE flag: letters, digits and `+_@-`, of which a letter or a digit comes first.
-pub fn is_flag(bytes: &[u8]) -> bool
-    ensures { result ≡ is_flag bytes.now }
-{
-    match bytes {
-        [] => false,
-        [first, ..] => is_letter_or_digit(*first) && has_flag_bytes(bytes),
-    }
-}
-
-/// Whether the bytes are a keyword's name: letters, digits and `_-`, of which `-` doesn't come first.
-pub fn is_keyword(bytes: &[u8]) -> bool
-    ensures { result ≡ is_keyword bytes.now }
-{
-    match bytes {
-        [] => false,
-        [first, ..] => *first != b'-' && has_keyword_bytes(bytes),
-    }
-}
-
 fn is_package_byte(b: u8) -> bool
     ensures { result ≡ is_package_byte b }
 {
@@ -110,19 +139,6 @@ fn ends_in_version(bytes: &[u8]) -> bool
     false
 }
 
-/// Whether the bytes are a package name: letters, digits and `+_-`, of which `-` and `+` don't come
-/// first, and no hyphen is followed by a text of version form, whatever the length of its runs of digits.
-pub fn is_package(bytes: &[u8]) -> bool
-    ensures { result ≡ is_package bytes.now }
-{
-    match bytes {
-        [] => false,
-        [first, ..] => {
-            !matches!(*first, b'-' | b'+') && has_package_bytes(bytes) && !ends_in_version(bytes)
-        }
-    }
-}
-
 // The hyphen between a package name and a text of version form. Only one hyphen has that form behind it,
 // so the name is looked at once.
 fn hyphen_place(bytes: &[u8]) -> Option<usize>
@@ -135,20 +151,4 @@ fn hyphen_place(bytes: &[u8]) -> Option<usize>
         }
     }
     None
-}
-
-/// The place of the hyphen by which the bytes are a package name, a hyphen and a version (a PF).
-/// None where there is no such hyphen, where a run of digits behind it is longer than 18, and where
-/// the place is past the room of lists, 2^32 bytes.
-pub fn split_pf(bytes: &[u8]) -> Option<u32>
-    ensures place { length bytes.now < 2 ^ 32 → result ≡ split_pf bytes.now }
-    ensures some { IfSome result (λ at. split_pf bytes.now ≡ Some at) }
-{
-    match hyphen_place(bytes) {
-        Some(at) => match long_run(&bytes[at + 1..]) {
-            Some(_) => None,
-            None => u32::try_from(at).ok(),
-        },
-        None => None,
-    }
 }

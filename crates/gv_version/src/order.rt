@@ -5,14 +5,98 @@
 ghost use Rattle.std.specs.Prelude.{◌≡◌, true};
 ghost use Rattle.gv_version.specs.Bytes.{front};
 ghost use Rattle.gv_version.specs.PieceReading.{are_digits, cmp_piece, cmp_pieces, cmp_some, part_of, pieces_in, shown_piece};
-ghost use Rattle.gv_version.specs.VersionForm.{is_in_suffixes};
-ghost use Rattle.gv_version.specs.VersionOrder.{compare, same_but_revision};
-ghost use Rattle.gv_version.specs.VersionPieces.{agrees, begins, is_front};
+ghost use Rattle.gv_version.specs.Form.{is_in_suffixes};
+ghost use Rattle.gv_version.specs.Order.{compare, same_but_revision};
+ghost use Rattle.gv_version.specs.Pieces.{agrees, begins, is_front};
 
 use crate::digits::{compare_integers, compare_later};
 use crate::pieces::{Kind, Piece, next_piece};
 use crate::version::Version;
 use std::cmp::Ordering;
+
+/// Compares two versions: numeric components, letter, suffixes, revision; the first part that
+/// differs decides.
+#[tactic(auto, using(crate::proofs::OrderLaw::versions_cmp))]
+pub fn compare(a: &Version, b: &Version) -> Ordering
+    ensures { result ≡ compare a.now b.now }
+{
+    compare_texts(a.text(), b.text())
+}
+
+impl PartialEq for Version {
+    ghost use Rattle.std.specs.Cmp.{partial_equiv_from_equiv};
+    ghost use Rattle.std.specs.Ordering.{eq_by_cmp};
+    ghost use Rattle.std.proofs.lemmas.Cmp.{eq_by_cmp_equiv};
+    ghost use Rattle.gv_version.specs.Total.{version_total};
+    ghost use Rattle.gv_version.specs.Order.{compare};
+
+    ghost eq = { eq_by_cmp compare };
+
+    ghost laws = { partial_equiv_from_equiv (eq_by_cmp_equiv version_total) };
+
+    fn eq(&self, other: &Version) -> bool {
+        matches!(compare(self, other), Ordering::Equal)
+    }
+}
+
+impl Eq for Version {
+    ghost use Rattle.std.proofs.lemmas.Cmp.{eq_by_cmp_equiv};
+    ghost use Rattle.gv_version.specs.Total.{version_total};
+
+    ghost laws = { eq_by_cmp_equiv version_total };
+}
+
+impl PartialOrd for Version {
+    ghost use Rattle.std.specs.Cmp.{partial_order_from_total};
+    ghost use Rattle.std.specs.Ordering.{as_partial_cmp};
+    ghost use Rattle.gv_version.specs.Total.{version_total};
+    ghost use Rattle.gv_version.specs.Order.{compare};
+
+    ghost partial_cmp = { as_partial_cmp compare };
+
+    ghost laws = { partial_order_from_total version_total };
+
+    fn partial_cmp(&self, other: &Version) -> Option<Ordering> {
+        Some(compare(self, other))
+    }
+}
+
+impl Ord for Version {
+    ghost use Rattle.std.specs.Cmp.Rules.{comparing};
+    ghost use Rattle.std.proofs.Common.{rules};
+    ghost use Rattle.gv_version.specs.Total.{version_total};
+    ghost use Rattle.gv_version.specs.Order.{compare};
+
+    ghost cmp = { compare };
+
+    ghost total = { version_total };
+
+    ghost matches_partial_cmp = { Prim.search (comparing, rules) };
+
+    ghost matches_eq = { Prim.search (comparing, rules) };
+
+    fn cmp(&self, other: &Version) -> Ordering {
+        compare(self, other)
+    }
+}
+
+/// Whether two versions are equal in the order when both revisions are left out.
+#[tactic(auto, using(crate::proofs::RevisionLaw::versions_same))]
+pub fn same_but_revision(a: &Version, b: &Version) -> bool
+    ensures { result ≡ same_but_revision a.now b.now }
+{
+    compare_texts(without_revision(a.text()), without_revision(b.text())).is_eq()
+}
+
+/// Whether `=v*` matches the version w: the numeric components, the letter, the suffixes and the
+/// revision that v has are those that w begins with, each equal in the order. A revision counts
+/// only where it is written.
+#[tactic(auto, using(crate::proofs::PartsLaw::versions_begin))]
+pub fn begins(v: &Version, w: &Version) -> bool
+    ensures { result ≡ begins v.now w.now }
+{
+    begins_texts(v.text(), w.text())
+}
 
 // A piece where the other version has none: a suffix other than `_p` makes a version less,
 // and a revision counts against 0.
@@ -83,72 +167,6 @@ fn compare_texts(a: &[u8], b: &[u8]) -> Ordering
     }
 }
 
-/// Compares two versions: numeric components, letter, suffixes, revision; the first part that
-/// differs decides.
-#[tactic(auto, using(crate::proofs::OrderLaw::versions_cmp))]
-pub fn compare(a: &Version, b: &Version) -> Ordering
-    ensures { result ≡ compare a.now b.now }
-{
-    compare_texts(a.text(), b.text())
-}
-
-impl PartialEq for Version {
-    ghost use Rattle.std.specs.Cmp.{partial_equiv_from_equiv};
-    ghost use Rattle.std.specs.Ordering.{eq_by_cmp};
-    ghost use Rattle.std.proofs.lemmas.Cmp.{eq_by_cmp_equiv};
-    ghost use Rattle.gv_version.specs.Total.{version_total};
-    ghost use Rattle.gv_version.specs.VersionOrder.{compare};
-
-    ghost eq = { eq_by_cmp compare };
-
-    ghost laws = { partial_equiv_from_equiv (eq_by_cmp_equiv version_total) };
-
-    fn eq(&self, other: &Version) -> bool {
-        matches!(compare(self, other), Ordering::Equal)
-    }
-}
-
-impl Eq for Version {
-    ghost use Rattle.std.proofs.lemmas.Cmp.{eq_by_cmp_equiv};
-    ghost use Rattle.gv_version.specs.Total.{version_total};
-
-    ghost laws = { eq_by_cmp_equiv version_total };
-}
-
-impl PartialOrd for Version {
-    ghost use Rattle.std.specs.Cmp.{partial_order_from_total};
-    ghost use Rattle.std.specs.Ordering.{as_partial_cmp};
-    ghost use Rattle.gv_version.specs.Total.{version_total};
-    ghost use Rattle.gv_version.specs.VersionOrder.{compare};
-
-    ghost partial_cmp = { as_partial_cmp compare };
-
-    ghost laws = { partial_order_from_total version_total };
-
-    fn partial_cmp(&self, other: &Version) -> Option<Ordering> {
-        Some(compare(self, other))
-    }
-}
-
-impl Ord for Version {
-    ghost use Rattle.std.specs.Cmp.Rules.{comparing};
-    ghost use Rattle.std.proofs.Common.{rules};
-    ghost use Rattle.gv_version.specs.Total.{version_total};
-    ghost use Rattle.gv_version.specs.VersionOrder.{compare};
-
-    ghost cmp = { compare };
-
-    ghost total = { version_total };
-
-    ghost matches_partial_cmp = { Prim.search (comparing, rules) };
-
-    ghost matches_eq = { Prim.search (comparing, rules) };
-
-    fn cmp(&self, other: &Version) -> Ordering {
-        compare(self, other)
-    }
-}
-
 // What stands before the hyphen of the revision.
 fn without_revision(text: &[u8]) -> &[u8]
     ensures { result.now ≡ front is_in_suffixes text.now }
@@ -159,14 +177,6 @@ fn without_revision(text: &[u8]) -> &[u8]
         }
     }
     text
-}
-
-/// Whether two versions are equal in the order when both revisions are left out.
-#[tactic(auto, using(crate::proofs::RevisionLaw::versions_same))]
-pub fn same_but_revision(a: &Version, b: &Version) -> bool
-    ensures { result ≡ same_but_revision a.now b.now }
-{
-    compare_texts(without_revision(a.text()), without_revision(b.text())).is_eq()
 }
 
 // Whether the pieces are of the same kind and equal in the order.
@@ -204,14 +214,4 @@ fn begins_texts(v: &[u8], w: &[u8]) -> bool
             }
         }
     }
-}
-
-/// Whether `=v*` matches the version w: the numeric components, the letter, the suffixes and the
-/// revision that v has are those that w begins with, each equal in the order. A revision counts
-/// only where it is written.
-#[tactic(auto, using(crate::proofs::PartsLaw::versions_begin))]
-pub fn begins(v: &Version, w: &Version) -> bool
-    ensures { result ≡ begins v.now w.now }
-{
-    begins_texts(v.text(), w.text())
 }

@@ -4,8 +4,8 @@ ghost use Rattle.std.specs.Prelude.{◌≡◌, ◌<◌, ◌≤◌, length, true,
 ghost use Rattle.std.specs.List.{prefix_len};
 ghost use Rattle.gv_version.specs.Bytes.{is_small};
 ghost use Rattle.gv_version.specs.PieceReading.{are_digits, next_piece, next_suffix, shown, shown_piece};
-ghost use Rattle.gv_version.specs.VersionForm.{kind_named};
-ghost use Rattle.gv_version.specs.VersionOrder.{rank};
+ghost use Rattle.gv_version.specs.Form.{kind_named};
+ghost use Rattle.gv_version.specs.Order.{rank};
 
 use crate::digits::split_run;
 
@@ -42,6 +42,15 @@ pub(crate) enum Piece<'a> {
     Letter(u8),
     Suffix(Kind, &'a [u8]),
     Revision(&'a [u8]),
+}
+
+/// Takes the first piece off the bytes, None where there is none.
+pub(crate) fn next_piece(bytes: &[u8]) -> Option<(Piece<'_>, &[u8])>
+    ensures piece { option_map shown result ≡ next_piece bytes.now }
+    ensures digits { IfSome result (λ p. are_digits (shown_piece p.0) ≡ true) }
+    ensures shorter { IfSome result (λ p. length p.1.now < length bytes.now) }
+{
+    read_piece(bytes)
 }
 
 fn kind_named(word: &[u8]) -> Option<Kind>
@@ -104,13 +113,4 @@ fn read_piece(bytes: &[u8]) -> Option<(Piece<'_>, &[u8])>
         }
         _ => None,
     }
-}
-
-/// Takes the first piece off the bytes, None where there is none.
-pub(crate) fn next_piece(bytes: &[u8]) -> Option<(Piece<'_>, &[u8])>
-    ensures piece { option_map shown result ≡ next_piece bytes.now }
-    ensures digits { IfSome result (λ p. are_digits (shown_piece p.0) ≡ true) }
-    ensures shorter { IfSome result (λ p. length p.1.now < length bytes.now) }
-{
-    read_piece(bytes)
 }

@@ -2,8 +2,8 @@
 //!
 //! `read_version`, `of` and `copy` cost O(bytes) and take the memory of the text; `text` takes none.
 ghost use Rattle.std.specs.Prelude.{◌≡◌, true, IfOk, MatchResult};
-ghost use Rattle.gv_version.specs.VersionForm.{is_version};
-ghost use Rattle.gv_version.specs.VersionFaults.{IsFaultOf};
+ghost use Rattle.gv_version.specs.Form.{is_version};
+ghost use Rattle.gv_version.specs.Faults.{IsFaultOf};
 
 use crate::form::{has_form, long_run, longest_form};
 use std::alloc::{AllocError, Global};
@@ -18,7 +18,7 @@ pub struct Version {
 
 impl Model for Version {
     ghost use Rattle.std.specs.Prelude.{◌≡◌, ℕ, List, true};
-    ghost use Rattle.gv_version.specs.VersionForm.{is_version};
+    ghost use Rattle.gv_version.specs.Form.{is_version};
 
     ghost Value = { List ℕ };
 

@@ -9,7 +9,7 @@ use Rattle.gv_facts.specs.declared.masks.Mask.{Mask}
 use Rattle.gv_facts.specs.declared.pkg.Pkg.{Pkg}
 use Rattle.gv_facts.specs.Places.{is_mask_of}
 use Rattle.gv_facts.specs.Visible.{is_masked, matches_pkg}
-use Rattle.gv_visible.specs.MasksAt.{matches_at}
+use Rattle.gv_visible.specs.MaskIndex.{matches_at}
 
 pub front_two : (a b c : Bool) → (a && (b && c)) ≡ true → (a && b) ≡ true
 front_two true true c h = refl

@@ -13,7 +13,8 @@ use Rattle.gv_facts.specs.declared.kinds.Level.{Level}
 use Rattle.gv_facts.specs.declared.pkg.Pkg.{Pkg}
 use Rattle.gv_facts.specs.declared.profile.Profile.{Profile}
 use Rattle.gv_facts.specs.Places.{is_pkg_of, places_from, places_of}
-use Rattle.gv_visible.specs.Shown.{is_from, shows, shows_at}
+use Rattle.gv_visible.specs.VisiblePkgs.{is_from, shows}
+use Rattle.gv_visible.specs.PrivateWords.{shows_at}
 
 pub front_three : (a b c d : Bool) → ((a && (b && c)) && d) ≡ true → (a && b) ≡ true
 front_three true true c d h = refl

@@ -1,7 +1,8 @@
 pub mod ByName
+pub mod Candidates
 pub mod HeldIndex
-pub mod Kept
-pub mod MasksAt
-pub mod Shown
-pub mod Tells
-pub mod Told
+pub mod MaskIndex
+pub mod PrivateWords
+pub mod StoredTest
+pub mod Tested
+pub mod VisiblePkgs

@@ -3,7 +3,7 @@
 ghost use Rattle.std.specs.Prelude.{◌≡◌, IfOk};
 ghost use Rattle.std.specs.List.{find};
 ghost use Rattle.gv_facts.specs.Places.{places_of};
-ghost use Rattle.gv_visible.specs.Shown.{is_from, shows};
+ghost use Rattle.gv_visible.specs.VisiblePkgs.{is_from, shows};
 
 use crate::{Candidates, PkgIndex, VisiblePkgs, visible};
 use gv_atom::Atom;

@@ -6,9 +6,10 @@ ghost use Rattle.std.specs.List.Sorted.{IsPartitionedBy};
 ghost use Rattle.gv_facts.specs.Places.{is_pkg_of, places_of};
 ghost use Rattle.gv_facts.specs.Visible.{visible};
 ghost use Rattle.gv_facts.specs.declared.pkg.Pkg.{Pkg};
-ghost use Rattle.gv_visible.specs.Shown.{is_from, shown_at, shows, shows_at};
-ghost use Rattle.gv_visible.specs.Tells.{AnswersVisible};
-ghost use Rattle.gv_visible.specs.Told.{level_of, pkgs_of, profile_of, test_of};
+ghost use Rattle.gv_visible.specs.VisiblePkgs.{is_from, shown_at, shows};
+ghost use Rattle.gv_visible.specs.PrivateWords.{shows_at};
+ghost use Rattle.gv_visible.specs.StoredTest.{AnswersVisible};
+ghost use Rattle.gv_visible.specs.Candidates.{level_of, pkgs_of, profile_of, test_of};
 ghost use Rattle.gv_visible.specs.HeldIndex.{held};
 
 use crate::pkg_index::PkgIndex;
@@ -18,15 +19,6 @@ use gv_base::NoMemory;
 use gv_facts::{Level, Pkg, Pkgs, Profile, matches_pkg};
 use std::alloc::Global;
 use std::marker::Model;
-
-// The ascending places from `from` on.
-fn places_from(places: &[u32], from: u32) -> &[u32]
-    requires { IsPartitionedBy (λ n. nat_lt n from) places.now }
-    ensures { result.now ≡ filter (is_from from) places.now }
-{
-    let first = places.partition_point(|place| *place < from);
-    &places[first..]
-}
 
 // An index that the candidates made, or one that was made for many of them.
 #[derive(Drop)]
@@ -72,8 +64,8 @@ pub struct Candidates<'a, F: Fn(&Pkg) -> bool> {
 impl<'a, F: Fn(&Pkg) -> bool> Model for Candidates<'a, F> {
     ghost use Rattle.std.specs.Option.{option_map};
     ghost use Rattle.gv_visible.specs.HeldIndex.{held};
-    ghost use Rattle.gv_visible.specs.Kept.{AreKept};
-    ghost use Rattle.gv_visible.specs.Told.{Candidates};
+    ghost use Rattle.gv_visible.specs.Tested.{AreKept};
+    ghost use Rattle.gv_visible.specs.Candidates.{Candidates};
 
     ghost Value = { Candidates F };
 
@@ -257,4 +249,13 @@ impl<'a, F: Fn(&Pkg) -> bool> Candidates<'a, F> {
     {
         self.at(atom.category.bytes(), atom.name.bytes())
     }
+}
+
+// The ascending places from `from` on.
+fn places_from(places: &[u32], from: u32) -> &[u32]
+    requires { IsPartitionedBy (λ n. nat_lt n from) places.now }
+    ensures { result.now ≡ filter (is_from from) places.now }
+{
+    let first = places.partition_point(|place| *place < from);
+    &places[first..]
 }

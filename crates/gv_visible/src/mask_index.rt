@@ -14,22 +14,6 @@ use indexmap::IndexMap;
 use std::alloc::Global;
 use std::marker::Model;
 
-// The places of the masks of each category and name.
-fn by_name<'a>(
-    alloc: Global,
-    masks: &'a Masks,
-) -> Result<IndexMap<(&'a [u8], &'a [u8]), &'a [u32]>, NoMemory>
-    ensures { IfOk result (λ places. HasPlaces is_mask_of places.entries masks.now) }
-{
-    let mut places = IndexMap::new(alloc);
-    for mask in masks.items() {
-        let category = mask.atom.category.bytes();
-        let name = mask.atom.name.bytes();
-        places.insert((category, name), masks.places_of(category, name))?;
-    }
-    Ok(places)
-}
-
 /// A profile with the places of its masks of each category and name: made once for the profile, and lent to the tests of
 /// every level.
 #[derive(Drop)]
@@ -89,4 +73,20 @@ impl<'a> MaskIndex<'a> {
         let arch = self.profile().arch.bytes();
         accepts(level, arch, &pkg.keywords) && !self.is_masked(pkg)
     }
+}
+
+// The places of the masks of each category and name.
+fn by_name<'a>(
+    alloc: Global,
+    masks: &'a Masks,
+) -> Result<IndexMap<(&'a [u8], &'a [u8]), &'a [u32]>, NoMemory>
+    ensures { IfOk result (λ places. HasPlaces is_mask_of places.entries masks.now) }
+{
+    let mut places = IndexMap::new(alloc);
+    for mask in masks.items() {
+        let category = mask.atom.category.bytes();
+        let name = mask.atom.name.bytes();
+        places.insert((category, name), masks.places_of(category, name))?;
+    }
+    Ok(places)
 }

@@ -2,7 +2,7 @@
 ghost use Rattle.std.specs.Prelude.{◌≡◌};
 ghost use Rattle.std.specs.List.{list_any};
 ghost use Rattle.gv_facts.specs.Visible.{is_masked, judged, visible};
-ghost use Rattle.gv_visible.specs.MasksAt.{matches_at};
+ghost use Rattle.gv_visible.specs.MaskIndex.{matches_at};
 
 use gv_facts::{Level, Mask, Masks, Pkg, Profile, accepts, matches_pkg};
 
@@ -30,16 +30,6 @@ pub fn judged(pkg: &Pkg, profile: &Profile) -> Option<Level>
     }
 }
 
-// Whether the mask at this place matches.
-fn matches_at(masks: &[Mask], place: u32, pkg: &Pkg) -> bool
-    ensures { result ≡ matches_at pkg.now masks.now place }
-{
-    match masks.get(place as usize) {
-        Some(mask) => matches_pkg(&mask.atom, pkg),
-        None => false,
-    }
-}
-
 pub(crate) fn some_matches(masks: &[Mask], places: &[u32], pkg: &Pkg) -> bool
     ensures { result ≡ list_any (matches_at pkg.now masks.now) places.now }
 {
@@ -49,6 +39,16 @@ pub(crate) fn some_matches(masks: &[Mask], places: &[u32], pkg: &Pkg) -> bool
         }
     }
     false
+}
+
+// Whether the mask at this place matches.
+fn matches_at(masks: &[Mask], place: u32, pkg: &Pkg) -> bool
+    ensures { result ≡ matches_at pkg.now masks.now place }
+{
+    match masks.get(place as usize) {
+        Some(mask) => matches_pkg(&mask.atom, pkg),
+        None => false,
+    }
 }
 
 // A mask that matches has the package's category and name, so no other is looked at.

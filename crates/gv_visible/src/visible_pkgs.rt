@@ -5,7 +5,7 @@
 ghost use Rattle.std.specs.Prelude.{◌≡◌, Some, slice_get, IfOk};
 ghost use Rattle.gv_facts.specs.Visible.{judged, visible};
 ghost use Rattle.gv_facts.specs.declared.pkg.Pkg.{Pkg};
-ghost use Rattle.gv_visible.specs.Shown.{are_visible};
+ghost use Rattle.gv_visible.specs.VisiblePkgs.{are_visible};
 
 use crate::mask_index::MaskIndex;
 use crate::pkg_index::PkgIndex;
@@ -13,22 +13,6 @@ use gv_base::NoMemory;
 use gv_facts::{Level, Pkg, Profile};
 use std::alloc::Global;
 use std::marker::Model;
-
-// Whether each package is visible at the level.
-fn shown(
-    alloc: Global,
-    pkgs: &[Pkg],
-    masks: &MaskIndex<'_>,
-    level: Level,
-) -> Result<Vec<bool>, NoMemory>
-    ensures { IfOk result (λ shown. shown.items ≡ are_visible masks.now level pkgs.now) }
-{
-    let mut shown = Vec::with_capacity(alloc, pkgs.len())?;
-    for pkg in pkgs {
-        shown.push(masks.visible(pkg, level))?;
-    }
-    Ok(shown)
-}
 
 /// Packages and a profile, with what the profile shows at each level: made once for the profile, and lent to the candidates of
 /// each level.
@@ -41,8 +25,8 @@ pub struct VisiblePkgs<'a> {
 }
 
 impl<'a> Model for VisiblePkgs<'a> {
-    ghost use Rattle.gv_visible.specs.Kept.{AreAllKept};
-    ghost use Rattle.gv_visible.specs.Told.{VisiblePkgs};
+    ghost use Rattle.gv_visible.specs.Tested.{AreAllKept};
+    ghost use Rattle.gv_visible.specs.Candidates.{VisiblePkgs};
 
     ghost Value = { VisiblePkgs };
 
@@ -118,4 +102,20 @@ impl<'a> VisiblePkgs<'a> {
         }
         None
     }
+}
+
+// Whether each package is visible at the level.
+fn shown(
+    alloc: Global,
+    pkgs: &[Pkg],
+    masks: &MaskIndex<'_>,
+    level: Level,
+) -> Result<Vec<bool>, NoMemory>
+    ensures { IfOk result (λ shown. shown.items ≡ are_visible masks.now level pkgs.now) }
+{
+    let mut shown = Vec::with_capacity(alloc, pkgs.len())?;
+    for pkg in pkgs {
+        shown.push(masks.visible(pkg, level))?;
+    }
+    Ok(shown)
 }

@@ -9,27 +9,27 @@ use Rattle.std.proofs.lemmas.Cmp.{nat_list_eq_equiv}
 use Rattle.std.proofs.lemmas.List.{length-map}
 use Rattle.gv_base.specs.Counts.{Counts}
 use Rattle.gv_base.specs.Order.{has_text}
-use Rattle.gv_cert.specs.AnswerBytes.{IsAnswer, claim_bytes}
+use Rattle.gv_cert.specs.Claim.{IsAnswer, claim_bytes}
 use Rattle.gv_cert.specs.Backing.{Backs, IsFirstBacked}
-use Rattle.gv_cert.specs.FileBytes.{ReadsFile, file_bytes}
-use Rattle.gv_cert.specs.Records.{KnownRecord}
+use Rattle.gv_cert.specs.File.{ReadsFile, file_bytes}
+use Rattle.gv_cert.specs.Known.{KnownRecord}
 use Rattle.gv_cert.specs.declared.claim.Claim.{Claim}
 use Rattle.gv_cert.specs.declared.claim.Claim.TheVariants.{Refuted, Found}
 use Rattle.gv_entry.specs.Allowed.{Parent}
 use Rattle.gv_expr.specs.Dep.{Dep}
-use Rattle.gv_expr.specs.Req.{Req}
+use Rattle.gv_expr.specs.Required.{Req}
 use Rattle.gv_load.specs.declared.loading.Repo.{Repo}
 use Rattle.gv_logic.specs.Bytes.{circuit_bytes}
 use Rattle.gv_logic.specs.Circuits.{Circuit, IsCircuit}
 use Rattle.gv_logic.specs.Laws.{CircuitLaw}
 use Rattle.gv_logic.specs.Logs.{Step}
-use Rattle.gv_query.specs.Asked.{Comes}
+use Rattle.gv_query.specs.Asking.{Comes}
 use Rattle.gv_query.specs.Truth.{IsSo}
 use Rattle.gv_report.specs.declared.options.Options.{Options}
 use Rattle.gv_report.specs.declared.report.Report.{Report}
 use Rattle.gv_report.specs.Emitted.{emitted, reports_text}
-use Rattle.gv_report.specs.Ordered.{ordered}
-use Rattle.gv_report.specs.Selected.{selected}
+use Rattle.gv_report.specs.Distinct.{ordered}
+use Rattle.gv_report.specs.Selecting.{selected}
 use Rattle.gv_checks.specs.Answered.{IsJudged}
 use Rattle.gv_checks.specs.Asked.{asked_gates, found_bits, least_asked}
 use Rattle.gv_checks.specs.Certs.{Cert, HasBacked, IsCert, cert_record, has_gates, new_count, with_use}

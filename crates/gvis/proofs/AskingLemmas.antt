@@ -1,7 +1,7 @@
 -- From the command that was read to what is asked for.
 use Rattle.std.proofs.Common.{◌≡◌, ℕ, Bool, false, List, None, refl, sym, ap, ◌∙◌}
 use Rattle.std.specs.Prelude.{Option, option_map}
-use Rattle.gv_words.specs.Commands.{command_of, meaning}
+use Rattle.gv_words.specs.Command.{command_of, meaning}
 use Rattle.gv_words.specs.declared.command.Command.{Command}
 use Rattle.gvis.specs.Asking.{is_job, is_job_meant}
 

@@ -4,17 +4,17 @@ use Rattle.std.specs.Prelude.{Option, IfSome, IfOk, IfErr, Ok, Err, ◌⊎◌}
 use Rattle.std.specs.List.{AllByRecursion}
 use Rattle.gv_base.specs.Causes.{Rose}
 use Rattle.gv_base.specs.FileMap.{FileMap}
-use Rattle.gv_cert.specs.Records.{KnownRecord}
+use Rattle.gv_cert.specs.Known.{KnownRecord}
 use Rattle.gv_expr.specs.Dep.{Dep}
-use Rattle.gv_expr.specs.Req.{Req}
+use Rattle.gv_expr.specs.Required.{Req}
 use Rattle.gv_entry.specs.Allowed.{Parent}
 use Rattle.gv_load.specs.declared.faults.LoadFault.{LoadFault}
 use Rattle.gv_load.specs.declared.loading.Repo.{Repo}
 use Rattle.gv_load.specs.Loading.{loading}
 use Rattle.gv_load.specs.Look.{look_of}
-use Rattle.gv_query.specs.Asked.{IsSpent}
+use Rattle.gv_query.specs.Asking.{IsSpent}
 use Rattle.gv_report.specs.declared.options.Options.{Options}
-use Rattle.gv_words.specs.Commands.{IsOneCommand}
+use Rattle.gv_words.specs.Command.{IsOneCommand}
 use Rattle.gv_words.specs.declared.command.Command.{Command}
 use Rattle.gv_words.specs.declared.command.Command.TheVariants as commands
 use Rattle.gv_checks.specs.Asked.{asked_flags, asked_gates}

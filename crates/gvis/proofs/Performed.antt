@@ -4,7 +4,7 @@ use Rattle.std.specs.Prelude.{Option, Some, None, IfOk, IfErr, Ok, Err, nat_lt, 
 use Rattle.std.proofs.lemmas.Bool.{false≢true, lt-ltb}
 use Rattle.gv_base.specs.Counts.{Counts}
 use Rattle.gv_base.specs.FileMap.{FileMap}
-use Rattle.gv_words.specs.Commands.{Meaning, command_of, scan, verify, session, demo}
+use Rattle.gv_words.specs.Command.{Meaning, command_of, scan, verify, session, demo}
 use Rattle.gvis.specs.declared.asking.Asked.{Asked}
 use Rattle.gvis.specs.declared.asking.Verification.{Verification}
 use Rattle.gvis.specs.declared.refusal.Refusal.{Refusal}

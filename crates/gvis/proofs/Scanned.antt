@@ -7,7 +7,7 @@ use Rattle.gv_base.specs.Counts.{Counts}
 use Rattle.gv_base.specs.FileMap.{FileMap}
 use Rattle.gv_base.specs.Outside.{gains}
 use Rattle.gv_base.specs.Words.{is_empty}
-use Rattle.gv_cert.specs.Records.{KnownRecord}
+use Rattle.gv_cert.specs.Known.{KnownRecord}
 use Rattle.gv_load.specs.declared.loading.Repo.{Repo}
 use Rattle.gv_checks.specs.Certs.{Cert}
 use Rattle.gv_checks.specs.RepoReports.{scan_text}

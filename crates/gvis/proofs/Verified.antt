@@ -5,7 +5,7 @@ use Rattle.gv_base.specs.Causes.{Rose}
 use Rattle.gv_base.specs.Counts.{Counts}
 use Rattle.gv_base.specs.FileMap.{FileMap}
 use Rattle.gv_base.specs.Outside.{gains}
-use Rattle.gv_cert.specs.Records.{KnownRecord}
+use Rattle.gv_cert.specs.Known.{KnownRecord}
 use Rattle.gv_load.specs.declared.loading.Repo.{Repo}
 use Rattle.gvis.specs.declared.asking.Verification.{Verification}
 use Rattle.gvis.specs.declared.refusal.Refusal.{Refusal}

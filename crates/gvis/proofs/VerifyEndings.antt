@@ -6,8 +6,8 @@ use Rattle.std.proofs.lemmas.Bool.{false≢true}
 use Rattle.gv_base.specs.Causes.{Rose}
 use Rattle.gv_base.specs.Counts.{Counts}
 use Rattle.gv_base.specs.FileMap.{FileMap}
-use Rattle.gv_cert.specs.FileBytes.{ReadsFile}
-use Rattle.gv_cert.specs.Records.{KnownRecord}
+use Rattle.gv_cert.specs.File.{ReadsFile}
+use Rattle.gv_cert.specs.Known.{KnownRecord}
 use Rattle.gv_load.specs.declared.faults.LoadFault.{LoadFault}
 use Rattle.gv_load.specs.declared.faults.LoadFault.TheVariants as loads
 use Rattle.gv_load.specs.declared.loading.Repo.{Repo}
@@ -15,7 +15,7 @@ use Rattle.gv_load.specs.Loading.{loading}
 use Rattle.gv_load.specs.Look.{look_of}
 use Rattle.gv_report.specs.declared.keyword.Keyword.{Keyword}
 use Rattle.gv_report.specs.declared.options.Options.{Options}
-use Rattle.gv_words.specs.Commands.{IsOneCommand}
+use Rattle.gv_words.specs.Command.{IsOneCommand}
 use Rattle.gv_words.specs.declared.command.Command.{Command}
 use Rattle.gv_words.specs.declared.command.Command.TheVariants as commands
 use Rattle.gv_checks.specs.Answered.{IsJudged}
@@ -26,8 +26,8 @@ use Rattle.gv_checks.specs.Recalled.{IsNotRecalled}
 use Rattle.gv_checks.specs.RepoReports.{scan_reports, scan_text}
 use Rattle.gv_checks.specs.declared.recalled.RecallFault.TheVariants as recalling
 use Rattle.gv_checks.specs.declared.whole.Judged.{Judged}
-use Rattle.gv_verify.specs.Verified as verified
-use Rattle.gv_verify.specs.Verified.{MayAccept}
+use Rattle.gv_verify.specs.Verifying as verified
+use Rattle.gv_verify.specs.Verifying.{MayAccept}
 use Rattle.gv_verify.specs.declared.verifying.VerifyFault.{VerifyFault}
 use Rattle.gv_verify.specs.declared.verifying.VerifyFault.TheVariants as faults
 use Rattle.gvis.specs.declared.asking.Verification.{Verification}

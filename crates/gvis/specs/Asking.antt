@@ -1,6 +1,6 @@
 -- What the words of a command ask for.
 use Rattle.std.specs.Prelude.{ℕ, Bool, true, false, List, Option, None, Some}
-use Rattle.gv_words.specs.Commands.{IsCommand, Meaning, command_of, scan, verify, session, demo}
+use Rattle.gv_words.specs.Command.{IsCommand, Meaning, command_of, scan, verify, session, demo}
 use Rattle.gv_words.specs.declared.command.Command.TheVariants.{Scan, Verify, Demo}
 use Rattle.gvis.specs.declared.asking.Asked.{Asked}
 use Rattle.gvis.specs.declared.asking.Job.{Job}

@@ -2,8 +2,8 @@
 use Rattle.std.specs.Prelude.{◌≡◌, ℕ, Bool, true, false, List, [], Option, IfSome, unwrap_or}
 use Rattle.std.specs.FinMap as map
 use Rattle.gv_base.specs.FileMap.{FileMap}
-use Rattle.gv_cert.specs.FileBytes.{ReadsFile}
-use Rattle.gv_cert.specs.Records.{KnownRecord}
+use Rattle.gv_cert.specs.File.{ReadsFile}
+use Rattle.gv_cert.specs.Known.{KnownRecord}
 use Rattle.gvis.specs.declared.asking.Asked.{Asked}
 
 -- the bytes of the file at a path; where none is there, no bytes

@@ -6,7 +6,7 @@ use Rattle.gv_facts.specs.Classes.{class_text}
 use Rattle.gv_facts.specs.declared.pkg.Pkg.{Pkg}
 use Rattle.gv_facts.specs.declared.profile.Profile.{Profile}
 use Rattle.gv_load.specs.declared.loading.Repo.{Repo}
-use Rattle.gv_report.specs.ReportText.{level_text, package_text}
+use Rattle.gv_report.specs.Line.{level_text, package_text}
 use Rattle.gv_checks.specs.declared.names.QueryName.{QueryName}
 
 abbrev pub has_line : ℕ → Profile → Bool

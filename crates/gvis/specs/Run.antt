@@ -8,8 +8,8 @@ use Rattle.gv_base.specs.Counts.{Counts}
 use Rattle.gv_base.specs.FileMap.{FileMap}
 use Rattle.gv_base.specs.Outside.{gains}
 use Rattle.gv_cert.specs.Backing.{NoneBacked}
-use Rattle.gv_cert.specs.FileBytes.{ReadsFile, file_bytes}
-use Rattle.gv_cert.specs.Records.{KnownRecord}
+use Rattle.gv_cert.specs.File.{ReadsFile, file_bytes}
+use Rattle.gv_cert.specs.Known.{KnownRecord}
 use Rattle.gv_load.specs.declared.faults.LoadFault.TheVariants as loads
 use Rattle.gv_load.specs.declared.loading.Repo.{Repo}
 use Rattle.gv_checks.specs.Certs.{AreCerts, Cert, HasBacked, cert_record, first_uses}

@@ -8,9 +8,9 @@ use Rattle.gv_base.specs.Counts.{Counts}
 use Rattle.gv_base.specs.FileMap.{FileMap}
 use Rattle.gv_base.specs.Outside.{gains}
 use Rattle.gv_base.specs.Words.{is_empty}
-use Rattle.gv_cert.specs.Records.{KnownRecord}
+use Rattle.gv_cert.specs.Known.{KnownRecord}
 use Rattle.gv_logic.specs.Circuits.{IsCircuit}
-use Rattle.gv_cert.specs.FileBytes.{ReadsFile}
+use Rattle.gv_cert.specs.File.{ReadsFile}
 use Rattle.gv_load.specs.declared.faults.LoadFault.TheVariants as loads
 use Rattle.gv_load.specs.declared.loading.Repo.{Repo}
 use Rattle.gv_report.specs.declared.options.Options.{Options}

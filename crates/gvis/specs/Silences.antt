@@ -1,8 +1,8 @@
 -- A silence: a class that is asked about and not reported. The certificates have a refutation of it.
 use Rattle.std.specs.Prelude.{◌≡◌, ℕ, List, None, Some, slice_get}
 use Rattle.gv_expr.specs.Dep.{Dep}
-use Rattle.gv_cert.specs.AnswerBytes.{IsAnswer, claim_bytes}
-use Rattle.gv_cert.specs.Records.{KnownRecord}
+use Rattle.gv_cert.specs.Claim.{IsAnswer, claim_bytes}
+use Rattle.gv_cert.specs.Known.{KnownRecord}
 use Rattle.gv_cert.specs.declared.claim.Claim.TheVariants.{Refuted}
 use Rattle.gv_logic.specs.Backed.{BacksNone}
 use Rattle.gv_logic.specs.Logs.{Step}

@@ -2,12 +2,12 @@
 use Rattle.std.specs.Prelude.{◌≡◌, ◌⊎◌, ℕ, ◌+◌, ◌==◌, if◌then◌else◌, List, [], ◌∷◌, ◌++◌, length, codes, decimal, Some, Ok}
 use Rattle.gv_base.specs.Causes.{Rose}
 use Rattle.gv_base.specs.Outside.{gains}
-use Rattle.gv_demo.specs.Demo.{demo}
+use Rattle.gv_demo.specs.Files.{demo}
 use Rattle.gv_load.specs.declared.loading.Repo.{Repo}
 use Rattle.gv_load.specs.Loading.{loading}
 use Rattle.gv_load.specs.Look.{look_of}
 use Rattle.gv_report.specs.declared.options.Options.{Options}
-use Rattle.gv_words.specs.Commands.{settings, settings_of}
+use Rattle.gv_words.specs.Command.{settings, settings_of}
 use Rattle.gv_checks.specs.Queries.{queries}
 use Rattle.gv_checks.specs.RepoReports.{scan_text}
 use Rattle.gvis.specs.declared.refusal.Refusal.{Refusal}

@@ -4,8 +4,8 @@ use Rattle.std.specs.List.{AllByRecursion}
 use Rattle.gv_base.specs.Causes.{Rose}
 use Rattle.gv_base.specs.FileMap.{FileMap}
 use Rattle.gv_base.specs.Outside.{gains}
-use Rattle.gv_cert.specs.FileBytes.{ReadsFile}
-use Rattle.gv_cert.specs.Records.{KnownRecord}
+use Rattle.gv_cert.specs.File.{ReadsFile}
+use Rattle.gv_cert.specs.Known.{KnownRecord}
 use Rattle.gv_load.specs.declared.faults.LoadFault.{LoadFault}
 use Rattle.gv_load.specs.declared.faults.LoadFault.TheVariants as loads
 use Rattle.gv_load.specs.declared.loading.Repo.{Repo}
@@ -15,7 +15,7 @@ use Rattle.gv_checks.specs.Queries.{queries}
 use Rattle.gv_checks.specs.Recalled.{IsNotRecalled}
 use Rattle.gv_checks.specs.RepoReports.{scan_text}
 use Rattle.gv_checks.specs.declared.recalled.RecallFault.TheVariants as recalling
-use Rattle.gv_verify.specs.Verified.{IsAccepted, IsOtherText}
+use Rattle.gv_verify.specs.Verifying.{IsAccepted, IsOtherText}
 use Rattle.gvis.specs.declared.asking.Verification.{Verification}
 use Rattle.gvis.specs.declared.refusal.Refusal.{Refusal}
 use Rattle.gvis.specs.declared.refusal.Refusal.TheVariants.{BadWords, TreeFailed, StoreFailed, OutputFailed, Spent, NoMemory, NotARepository, Limit}

@@ -45,6 +45,36 @@ pub(crate) fn read<T: Tree>(alloc: Global, tree: &mut T) -> Result<Repo, Refusal
     }
 }
 
+// The text of the reports that the options select. JSON is written of printable texts alone, as all reports of a
+// repository have; where one weren't so, memory is said to be wanting.
+pub(crate) fn text_of(alloc: Global, options: &Options, reports: &Reports) -> Result<Text, NoMemory>
+    ensures { IfOk result (λ text. text ≡ emitted options.now reports.now) }
+{
+    if options.json && !reports.are_printable() {
+        return Err(NoMemory);
+    }
+    let test = |report: &Report| selected(options, report);
+    Emitter::new(options, test).emit(alloc, reports)
+}
+
+/// The answers of the repository that stands in the tree, by records that are given where these are backed.
+pub(crate) fn answer_root<T: Tree, L: Ledger>(
+    alloc: Global,
+    asked: &Asked,
+    given: &Known,
+    tree: &mut T,
+    steps: &mut Steps<L>,
+) -> Result<Answers, Refusal>
+    ensures answers { IfOk result (HasAnswers asked.now given.now (reading (T.files tree.old) (T.faults tree.old) (T.faults tree.new) steps.old steps.new)) }
+    ensures cause { IfErr result (AnswerCause asked.now given.now (reading (T.files tree.old) (T.faults tree.old) (T.faults tree.new) steps.old steps.new)) }
+    ensures files { T.files tree.new ≡ T.files tree.old }
+    ensures root { T.entered tree.new ≡ T.entered tree.old }
+    ensures later { T.faults tree.old ≤ T.faults tree.new }
+{
+    let repo = read(alloc, tree)?;
+    answers_of(alloc, &repo, &asked.options, given, steps)
+}
+
 fn judged<L: Ledger>(
     alloc: Global,
     repo: &Repo,
@@ -66,18 +96,6 @@ fn judged<L: Ledger>(
     }
 }
 
-// The text of the reports that the options select. JSON is written of printable texts alone, as all reports of a
-// repository have; where one weren't so, memory is said to be wanting.
-pub(crate) fn text_of(alloc: Global, options: &Options, reports: &Reports) -> Result<Text, NoMemory>
-    ensures { IfOk result (λ text. text ≡ emitted options.now reports.now) }
-{
-    if options.json && !reports.are_printable() {
-        return Err(NoMemory);
-    }
-    let test = |report: &Report| selected(options, report);
-    Emitter::new(options, test).emit(alloc, reports)
-}
-
 #[tactic(auto, using(crate::proofs::AnswerLemmas::are_answers))]
 fn answers_of<L: Ledger>(
     alloc: Global,
@@ -96,22 +114,4 @@ fn answers_of<L: Ledger>(
     let text = text_of(alloc, options, &judged.reports)?;
     let file = write_known(alloc, &judged.certs)?;
     Ok(Answers { text, file })
-}
-
-/// The answers of the repository that stands in the tree, by records that are given where these are backed.
-pub(crate) fn answer_root<T: Tree, L: Ledger>(
-    alloc: Global,
-    asked: &Asked,
-    given: &Known,
-    tree: &mut T,
-    steps: &mut Steps<L>,
-) -> Result<Answers, Refusal>
-    ensures answers { IfOk result (HasAnswers asked.now given.now (reading (T.files tree.old) (T.faults tree.old) (T.faults tree.new) steps.old steps.new)) }
-    ensures cause { IfErr result (AnswerCause asked.now given.now (reading (T.files tree.old) (T.faults tree.old) (T.faults tree.new) steps.old steps.new)) }
-    ensures files { T.files tree.new ≡ T.files tree.old }
-    ensures root { T.entered tree.new ≡ T.entered tree.old }
-    ensures later { T.faults tree.old ≤ T.faults tree.new }
-{
-    let repo = read(alloc, tree)?;
-    answers_of(alloc, &repo, &asked.options, given, steps)
 }

@@ -1,7 +1,7 @@
 //! How a query is named to people. O(profiles) steps.
 ghost use Rattle.std.specs.Prelude.{◌≡◌, ◌++◌, IfOk, OnOk, option_copied};
 ghost use Rattle.std.specs.List.{find};
-ghost use Rattle.gv_report.specs.ReportText.{level_text};
+ghost use Rattle.gv_report.specs.Line.{level_text};
 ghost use Rattle.gvis.specs.Naming.{has_line, name_text, pkg_at, pkg_text, profile_at, profile_text};
 
 use gv_base::{NoMemory, Text};
@@ -9,6 +9,21 @@ use gv_checks::QueryName;
 use gv_facts::{Level, Pkg, Profile, class_text};
 use gv_load::Repo;
 use std::alloc::Global;
+
+/// CATEGORY/PF CLASS ARCH PATH LEVEL: of the package with the name's number, and of the profile with its line.
+pub(crate) fn name_text(alloc: Global, repo: &Repo, name: &QueryName) -> Result<Text, NoMemory>
+    ensures { IfOk result (λ text. text ≡ name_text repo.now name.now) }
+{
+    let mut text = Text::of(alloc, b"")?;
+    append_pkg_at(&mut text, repo, name.package)?;
+    text.append(b" ")?;
+    text.append(class_text(name.class))?;
+    text.append(b" ")?;
+    append_profile_at(&mut text, repo, name.context.line)?;
+    text.append(b" ")?;
+    text.append(level_text(name.context.level))?;
+    Ok(text)
+}
 
 fn level_text(level: Level) -> &'static [u8]
     ensures { result.now ≡ level_text level }
@@ -60,19 +75,4 @@ fn append_profile_at(text: &mut Text, repo: &Repo, line: u32) -> Result<(), NoMe
         Some(profile) => append_profile(text, profile),
         None => Ok(()),
     }
-}
-
-/// CATEGORY/PF CLASS ARCH PATH LEVEL: of the package with the name's number, and of the profile with its line.
-pub(crate) fn name_text(alloc: Global, repo: &Repo, name: &QueryName) -> Result<Text, NoMemory>
-    ensures { IfOk result (λ text. text ≡ name_text repo.now name.now) }
-{
-    let mut text = Text::of(alloc, b"")?;
-    append_pkg_at(&mut text, repo, name.package)?;
-    text.append(b" ")?;
-    text.append(class_text(name.class))?;
-    text.append(b" ")?;
-    append_profile_at(&mut text, repo, name.context.line)?;
-    text.append(b" ")?;
-    text.append(level_text(name.context.level))?;
-    Ok(text)
 }

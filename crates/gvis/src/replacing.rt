@@ -15,6 +15,30 @@ const MOST_LEFT: u32 = 1000;
 /// So many links may lead from one to the next.
 const MOST_LINKS: u32 = 40;
 
+/// Makes the bytes the file at the path. Links are followed; what is there and is no regular file is written in place.
+pub(crate) fn replace_file<R: Files + AllocGlobal>(
+    rt: &R,
+    alloc: Global,
+    path: &str,
+    bytes: &[u8],
+) -> Result<(), Trouble> {
+    match fs::metadata(rt, path) {
+        Ok(metadata) if metadata.is_file() => {
+            let real = fs::canonicalize(rt, path).map_err(|e| trouble_of(&e))?;
+            replace_whole(rt, alloc, real.as_str(), bytes, &Some(metadata))
+        }
+        Ok(_) => write_in_place(rt, path, bytes),
+        Err(e) => match (trouble_of(&e), fs::symlink_metadata(rt, path)) {
+            (Trouble::NotThere, Ok(_)) => {
+                let real = end_of_links(rt, alloc, path)?;
+                replace_whole(rt, alloc, &real, bytes, &None)
+            }
+            (Trouble::NotThere, Err(_)) => replace_whole(rt, alloc, path, bytes, &None),
+            (trouble, _) => Err(trouble),
+        },
+    }
+}
+
 fn write_all<W: Write>(file: &mut W, bytes: &[u8]) -> Result<(), Trouble> {
     file.write_all(bytes).map_err(|e| trouble_of(&e))
 }
@@ -120,28 +144,4 @@ fn end_of_links<R: Files + AllocGlobal>(
         end = linked_path(alloc, &end, target.as_str())?;
     }
     Err(Trouble::Other)
-}
-
-/// Makes the bytes the file at the path. Links are followed; what is there and is no regular file is written in place.
-pub(crate) fn replace_file<R: Files + AllocGlobal>(
-    rt: &R,
-    alloc: Global,
-    path: &str,
-    bytes: &[u8],
-) -> Result<(), Trouble> {
-    match fs::metadata(rt, path) {
-        Ok(metadata) if metadata.is_file() => {
-            let real = fs::canonicalize(rt, path).map_err(|e| trouble_of(&e))?;
-            replace_whole(rt, alloc, real.as_str(), bytes, &Some(metadata))
-        }
-        Ok(_) => write_in_place(rt, path, bytes),
-        Err(e) => match (trouble_of(&e), fs::symlink_metadata(rt, path)) {
-            (Trouble::NotThere, Ok(_)) => {
-                let real = end_of_links(rt, alloc, path)?;
-                replace_whole(rt, alloc, &real, bytes, &None)
-            }
-            (Trouble::NotThere, Err(_)) => replace_whole(rt, alloc, path, bytes, &None),
-            (trouble, _) => Err(trouble),
-        },
-    }
 }

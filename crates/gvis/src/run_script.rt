@@ -49,21 +49,6 @@ pub(crate) fn put<R: Abort>(rt: &R, files: &mut Files, path: &[u8], bytes: &[u8]
     files.put(path, bytes).expect(rt, "memory");
 }
 
-fn shown(bytes: &[u8]) -> &str {
-    std::str::from_utf8(bytes).unwrap_or("no text")
-}
-
-// How a run ended: its name, its status, what stands on err and what stands on out.
-fn told<R: Abort>(rt: &R, alloc: Global, name: &Text, status: u32, err: &[u8], out: &[u8]) -> Text {
-    let mut told = text(rt, alloc, name.bytes());
-    append(rt, &mut told, b": ");
-    append(rt, &mut told, &[b'0' + status.min(9) as u8]);
-    append(rt, &mut told, b"\n");
-    append(rt, &mut told, err);
-    append(rt, &mut told, out);
-    told
-}
-
 pub(crate) fn begin<R: Abort>(rt: &R, alloc: Global) -> Script {
     Script {
         files: Files::new(alloc),
@@ -79,6 +64,144 @@ pub(crate) fn begin<R: Abort>(rt: &R, alloc: Global) -> Script {
         out: text(rt, alloc, b""),
         err: text(rt, alloc, b""),
     }
+}
+
+pub(crate) fn add_line<R: Abort>(rt: &R, alloc: Global, script: &mut Script, line: &[u8]) {
+    let before = script
+        .files
+        .get(script.path.bytes())
+        .unwrap_or(b"".as_slice());
+    let mut bytes = text(rt, alloc, before);
+    append(rt, &mut bytes, line);
+    append(rt, &mut bytes, b"\n");
+    put(rt, &mut script.files, script.path.bytes(), bytes.bytes());
+}
+
+pub(crate) fn begin_file<R: Abort>(rt: &R, alloc: Global, script: &mut Script, path: &[u8]) {
+    script.path = text(rt, alloc, path);
+    put(rt, &mut script.files, path, b"");
+}
+
+/// Begins the entry of a package whose ebuild is empty.
+pub(crate) fn begin_entry<R: Abort>(
+    rt: &R,
+    alloc: Global,
+    script: &mut Script,
+    category: &[u8],
+    name: &[u8],
+    version: &[u8],
+) {
+    let ebuild = path_of(
+        rt,
+        alloc,
+        &[category, b"/", name, b"/", name, b"-", version, b".ebuild"],
+    );
+    put(rt, &mut script.files, ebuild.bytes(), b"");
+    let entry = path_of(
+        rt,
+        alloc,
+        &[b"metadata/md5-cache/", category, b"/", name, b"-", version],
+    );
+    begin_file(rt, alloc, script, entry.bytes());
+    add_line(rt, alloc, script, b"_md5_=d41d8cd98f00b204e9800998ecf8427e");
+}
+
+// The pieces between spaces, empty ones among them; no word where there is no byte.
+pub(crate) fn split<R: Abort>(rt: &R, alloc: Global, line: &[u8]) -> Texts {
+    let mut words = Texts::new(alloc);
+    let mut rest = if line.is_empty() { None } else { Some(line) };
+    for _ in 0..10 {
+        if let Some(word) = next_piece(&mut rest, Cut::Words) {
+            words.add(text(rt, alloc, word)).expect(rt, "memory");
+        }
+    }
+    words
+}
+
+pub(crate) fn tree_of<R: Abort>(rt: &R, alloc: Global, script: &Script) -> MemTree {
+    let files = script.files.copy(alloc).expect(rt, "memory");
+    MemTree::new(files, calls(rt, alloc, script.tree_fails))
+}
+
+/// Runs over a store with these certificates, compares the status and what stands on out and on err, and answers the
+/// certificates that the store has then.
+pub(crate) fn expect_over<R: Abort>(
+    rt: &R,
+    alloc: Global,
+    script: &Script,
+    before: &[u8],
+    status: u32,
+) -> Text {
+    let mut store = store_of(rt, alloc, script, before);
+    let got = run_over(rt, alloc, script, &mut store);
+    let want = told(
+        rt,
+        alloc,
+        &script.name,
+        status,
+        script.err.bytes(),
+        script.out.bytes(),
+    );
+    assert_eq!(rt; shown(got.bytes()), shown(want.bytes()));
+    assert_eq!(rt; got.bytes(), want.bytes());
+    let file = store.files().get(b"C").unwrap_or(b"".as_slice());
+    compare_file(rt, script, before, status, file);
+    text(rt, alloc, file)
+}
+
+/// Runs over a store with these certificates and this report, each of which is no file where it has no bytes, and answers
+/// the status and what stands on err and on out. The store is left as it is.
+pub(crate) fn told_over<R: Abort>(
+    rt: &R,
+    alloc: Global,
+    script: &Script,
+    certs: &[u8],
+    report: &[u8],
+) -> Text {
+    let mut files = Files::new(alloc);
+    if !certs.is_empty() {
+        put(rt, &mut files, b"C", certs);
+    }
+    if !report.is_empty() {
+        put(rt, &mut files, b"P", report);
+    }
+    let mut store = MemStore::new(files, calls(rt, alloc, script.store_fails));
+    let told = run_over(rt, alloc, script, &mut store);
+    assert_eq!(rt; store.files().get(b"C").unwrap_or(b"".as_slice()), certs);
+    assert_eq!(rt; store.files().get(b"P").unwrap_or(b"".as_slice()), report);
+    told
+}
+
+pub(crate) fn expect<R: Abort>(rt: &R, alloc: Global, script: &Script, status: u32) {
+    let _ = expect_over(rt, alloc, script, b"", status);
+}
+
+// Performs the lines, of which there are these many runs.
+pub(crate) fn perform<R: Abort>(rt: &R, alloc: Global, lines: &[u8], want: u32) {
+    let mut script = begin(rt, alloc);
+    assert_eq!(rt; perform_on(rt, alloc, &mut script, lines), want);
+}
+
+/// What lines without a run say of one.
+pub(crate) fn scripted<R: Abort>(rt: &R, alloc: Global, lines: &[u8]) -> Script {
+    let mut script = begin(rt, alloc);
+    let _ = perform_on(rt, alloc, &mut script, lines);
+    script
+}
+
+fn shown(bytes: &[u8]) -> &str {
+    std::str::from_utf8(bytes).unwrap_or("no text")
+}
+
+// How a run ended: its name, its status, what stands on err and what stands on out.
+fn told<R: Abort>(rt: &R, alloc: Global, name: &Text, status: u32, err: &[u8], out: &[u8]) -> Text {
+    let mut told = text(rt, alloc, name.bytes());
+    append(rt, &mut told, b": ");
+    append(rt, &mut told, &[b'0' + status.min(9) as u8]);
+    append(rt, &mut told, b"\n");
+    append(rt, &mut told, err);
+    append(rt, &mut told, out);
+    told
 }
 
 // All but the files and the name.
@@ -105,22 +228,6 @@ fn number(digits: &[u8]) -> u32 {
     number
 }
 
-pub(crate) fn add_line<R: Abort>(rt: &R, alloc: Global, script: &mut Script, line: &[u8]) {
-    let before = script
-        .files
-        .get(script.path.bytes())
-        .unwrap_or(b"".as_slice());
-    let mut bytes = text(rt, alloc, before);
-    append(rt, &mut bytes, line);
-    append(rt, &mut bytes, b"\n");
-    put(rt, &mut script.files, script.path.bytes(), bytes.bytes());
-}
-
-pub(crate) fn begin_file<R: Abort>(rt: &R, alloc: Global, script: &mut Script, path: &[u8]) {
-    script.path = text(rt, alloc, path);
-    put(rt, &mut script.files, path, b"");
-}
-
 // A path of parts.
 fn path_of<R: Abort>(rt: &R, alloc: Global, parts: &[&[u8]]) -> Text {
     let mut path = text(rt, alloc, b"");
@@ -128,30 +235,6 @@ fn path_of<R: Abort>(rt: &R, alloc: Global, parts: &[&[u8]]) -> Text {
         append(rt, &mut path, part);
     }
     path
-}
-
-/// Begins the entry of a package whose ebuild is empty.
-pub(crate) fn begin_entry<R: Abort>(
-    rt: &R,
-    alloc: Global,
-    script: &mut Script,
-    category: &[u8],
-    name: &[u8],
-    version: &[u8],
-) {
-    let ebuild = path_of(
-        rt,
-        alloc,
-        &[category, b"/", name, b"/", name, b"-", version, b".ebuild"],
-    );
-    put(rt, &mut script.files, ebuild.bytes(), b"");
-    let entry = path_of(
-        rt,
-        alloc,
-        &[b"metadata/md5-cache/", category, b"/", name, b"-", version],
-    );
-    begin_file(rt, alloc, script, entry.bytes());
-    add_line(rt, alloc, script, b"_md5_=d41d8cd98f00b204e9800998ecf8427e");
 }
 
 fn begin_entry_of<R: Abort>(rt: &R, alloc: Global, script: &mut Script, words: &[u8]) {
@@ -198,23 +281,6 @@ fn calls<R: Abort>(rt: &R, alloc: Global, number: u32) -> Calls {
         calls.add(number).expect(rt, "memory");
     }
     calls
-}
-
-// The pieces between spaces, empty ones among them; no word where there is no byte.
-pub(crate) fn split<R: Abort>(rt: &R, alloc: Global, line: &[u8]) -> Texts {
-    let mut words = Texts::new(alloc);
-    let mut rest = if line.is_empty() { None } else { Some(line) };
-    for _ in 0..10 {
-        if let Some(word) = next_piece(&mut rest, Cut::Words) {
-            words.add(text(rt, alloc, word)).expect(rt, "memory");
-        }
-    }
-    words
-}
-
-pub(crate) fn tree_of<R: Abort>(rt: &R, alloc: Global, script: &Script) -> MemTree {
-    let files = script.files.copy(alloc).expect(rt, "memory");
-    MemTree::new(files, calls(rt, alloc, script.tree_fails))
 }
 
 fn sink_of<R: Abort>(rt: &R, alloc: Global, most: u32, fails: u32) -> MemSink {
@@ -271,59 +337,6 @@ fn run_over<R: Abort>(rt: &R, alloc: Global, script: &Script, store: &mut MemSto
     run_on::<Brand, R>(rt, alloc, Blank::new(2), script, store)
 }
 
-/// Runs over a store with these certificates, compares the status and what stands on out and on err, and answers the
-/// certificates that the store has then.
-pub(crate) fn expect_over<R: Abort>(
-    rt: &R,
-    alloc: Global,
-    script: &Script,
-    before: &[u8],
-    status: u32,
-) -> Text {
-    let mut store = store_of(rt, alloc, script, before);
-    let got = run_over(rt, alloc, script, &mut store);
-    let want = told(
-        rt,
-        alloc,
-        &script.name,
-        status,
-        script.err.bytes(),
-        script.out.bytes(),
-    );
-    assert_eq!(rt; shown(got.bytes()), shown(want.bytes()));
-    assert_eq!(rt; got.bytes(), want.bytes());
-    let file = store.files().get(b"C").unwrap_or(b"".as_slice());
-    compare_file(rt, script, before, status, file);
-    text(rt, alloc, file)
-}
-
-/// Runs over a store with these certificates and this report, each of which is no file where it has no bytes, and answers
-/// the status and what stands on err and on out. The store is left as it is.
-pub(crate) fn told_over<R: Abort>(
-    rt: &R,
-    alloc: Global,
-    script: &Script,
-    certs: &[u8],
-    report: &[u8],
-) -> Text {
-    let mut files = Files::new(alloc);
-    if !certs.is_empty() {
-        put(rt, &mut files, b"C", certs);
-    }
-    if !report.is_empty() {
-        put(rt, &mut files, b"P", report);
-    }
-    let mut store = MemStore::new(files, calls(rt, alloc, script.store_fails));
-    let told = run_over(rt, alloc, script, &mut store);
-    assert_eq!(rt; store.files().get(b"C").unwrap_or(b"".as_slice()), certs);
-    assert_eq!(rt; store.files().get(b"P").unwrap_or(b"".as_slice()), report);
-    told
-}
-
-pub(crate) fn expect<R: Abort>(rt: &R, alloc: Global, script: &Script, status: u32) {
-    let _ = expect_over(rt, alloc, script, b"", status);
-}
-
 // Performs a line, and answers whether it was a run.
 fn performs<R: Abort>(rt: &R, alloc: Global, script: &mut Script, line: &[u8]) -> bool {
     match line {
@@ -356,17 +369,4 @@ fn perform_on<R: Abort>(rt: &R, alloc: Global, script: &mut Script, lines: &[u8]
         }
     }
     runs
-}
-
-// Performs the lines, of which there are these many runs.
-pub(crate) fn perform<R: Abort>(rt: &R, alloc: Global, lines: &[u8], want: u32) {
-    let mut script = begin(rt, alloc);
-    assert_eq!(rt; perform_on(rt, alloc, &mut script, lines), want);
-}
-
-/// What lines without a run say of one.
-pub(crate) fn scripted<R: Abort>(rt: &R, alloc: Global, lines: &[u8]) -> Script {
-    let mut script = begin(rt, alloc);
-    let _ = perform_on(rt, alloc, &mut script, lines);
-    script
 }

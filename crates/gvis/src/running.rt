@@ -1,7 +1,7 @@
 //! The top call: all that the program does, over any outside.
 ghost use Rattle.std.specs.Prelude.{◌≡◌, ◌⊎◌, ℕ, List, false, IfSome};
 ghost use Rattle.gv_base.specs.Causes.{Rose};
-ghost use Rattle.gv_cert.specs.Records.{KnownRecord};
+ghost use Rattle.gv_cert.specs.Known.{KnownRecord};
 ghost use Rattle.gv_load.specs.Loading.{loading};
 ghost use Rattle.gv_load.specs.Look.{look_of};
 ghost use Rattle.gvis.specs.Asking.{AsksFor, AsksForDemo, AsksToVerify, is_job};
@@ -25,32 +25,6 @@ use gv_cert::file_law;
 use gv_verify::accepted_law;
 use gv_words::command_law;
 use std::alloc::Global;
-
-// Performs the command that the words are. Of a scan, answers whether there are reports; of a verification, whether the
-// report is refused.
-#[tactic(auto, using(crate::proofs::Performed::unbegun, crate::proofs::Performed::bad_words))]
-fn perform<T: Tree, K: Store, S: Sink, L: Ledger>(
-    alloc: Global,
-    words: &Texts,
-    tree: &mut T,
-    store: &mut K,
-    out: &mut S,
-    steps: &mut Steps<L>,
-) -> Result<bool, Refusal>
-    ensures { Performs words.now
-        (world (T.entered tree.old) (T.files tree.old) (T.faults tree.old) (K.files store.old) (K.faults store.old) (S.held out.old) (S.faults out.old) steps.old)
-        (world (T.entered tree.new) (T.files tree.new) (T.faults tree.new) (K.files store.new) (K.faults store.new) (S.held out.new) (S.faults out.new) steps.new)
-        result }
-{
-    match job_of(alloc, words)? {
-        None => Err(Refusal::BadWords),
-        Some(Job::Scan { asked }) => scan(alloc, &asked, tree, store, out, steps),
-        Some(Job::Verify { verification }) => {
-            verify_report(alloc, &verification, tree, store, out, steps)
-        }
-        Some(Job::Demo { number }) => write_summary(alloc, number, out, steps),
-    }
-}
 
 /// Runs the command that the words ask for, and answers the status to end with.
 ///
@@ -109,4 +83,30 @@ pub fn run<T: Tree, K: Store, I: Source, S: Sink, E: Sink, L: Ledger>(
     accepted_law();
     let ending = perform(alloc, words, tree, store, out, steps);
     tell(alloc, &ending, err)
+}
+
+// Performs the command that the words are. Of a scan, answers whether there are reports; of a verification, whether the
+// report is refused.
+#[tactic(auto, using(crate::proofs::Performed::unbegun, crate::proofs::Performed::bad_words))]
+fn perform<T: Tree, K: Store, S: Sink, L: Ledger>(
+    alloc: Global,
+    words: &Texts,
+    tree: &mut T,
+    store: &mut K,
+    out: &mut S,
+    steps: &mut Steps<L>,
+) -> Result<bool, Refusal>
+    ensures { Performs words.now
+        (world (T.entered tree.old) (T.files tree.old) (T.faults tree.old) (K.files store.old) (K.faults store.old) (S.held out.old) (S.faults out.old) steps.old)
+        (world (T.entered tree.new) (T.files tree.new) (T.faults tree.new) (K.files store.new) (K.faults store.new) (S.held out.new) (S.faults out.new) steps.new)
+        result }
+{
+    match job_of(alloc, words)? {
+        None => Err(Refusal::BadWords),
+        Some(Job::Scan { asked }) => scan(alloc, &asked, tree, store, out, steps),
+        Some(Job::Verify { verification }) => {
+            verify_report(alloc, &verification, tree, store, out, steps)
+        }
+        Some(Job::Demo { number }) => write_summary(alloc, number, out, steps),
+    }
 }

@@ -19,6 +19,41 @@ use gv_base::{Ledger, Sink, SinkFault, Steps, Store, StoreFault, Text, Tree};
 use gv_cert::Known;
 use std::alloc::Global;
 
+/// Writes the text.
+pub(crate) fn write<S: Sink>(out: &mut S, text: &Text) -> Result<(), Refusal>
+    ensures ok { OnOk result (S.held out.new ≡ gains (S.held out.old) text.now) }
+    ensures err { OnErr result (GainsFront (S.held out.old) (S.held out.new) text.now) }
+    ensures cause { IfErr result (WriteCause (S.faults out.old) (S.faults out.new)) }
+    ensures later { S.faults out.old ≤ S.faults out.new }
+    ensures calm { OnOk result (S.faults out.new ≡ S.faults out.old) }
+{
+    match put_all(out, text.bytes()) {
+        Ok(()) => Ok(()),
+        Err(SinkFault::Failed) => Err(Refusal::OutputFailed),
+        Err(SinkFault::NoMemory) => Err(Refusal::NoMemory),
+    }
+}
+
+/// Scans, and answers whether there are reports.
+#[tactic(auto, using(crate::proofs::Scanned::unfetched, crate::proofs::Performed::unbegun))]
+pub(crate) fn scan<T: Tree, K: Store, S: Sink, L: Ledger>(
+    alloc: Global,
+    asked: &Asked,
+    tree: &mut T,
+    store: &mut K,
+    out: &mut S,
+    steps: &mut Steps<L>,
+) -> Result<bool, Refusal>
+    ensures { (words : List (List ℕ)) → AsksFor words asked.now → Performs words
+        (world (T.entered tree.old) (T.files tree.old) (T.faults tree.old) (K.files store.old) (K.faults store.old) (S.held out.old) (S.faults out.old) steps.old)
+        (world (T.entered tree.new) (T.files tree.new) (T.faults tree.new) (K.files store.new) (K.faults store.new) (S.held out.new) (S.faults out.new) steps.new)
+        result }
+{
+    tree.enter(alloc, &asked.root)?;
+    let given = given(alloc, asked, store)?;
+    scan_root(alloc, asked, &given, tree, store, out, steps)
+}
+
 // Makes the bytes the file at the path.
 fn keep<K: Store>(alloc: Global, path: &Text, file: &Text, store: &mut K) -> Result<(), Refusal>
     ensures kept { OnOk result (K.files store.new ≡ option_map (λ files. map.insert files path.now file.now) (K.files store.old)) }
@@ -34,21 +69,6 @@ fn keep<K: Store>(alloc: Global, path: &Text, file: &Text, store: &mut K) -> Res
             Err(_) => Err(Refusal::NoMemory),
         },
         Err(StoreFault::NoMemory) => Err(Refusal::NoMemory),
-    }
-}
-
-/// Writes the text.
-pub(crate) fn write<S: Sink>(out: &mut S, text: &Text) -> Result<(), Refusal>
-    ensures ok { OnOk result (S.held out.new ≡ gains (S.held out.old) text.now) }
-    ensures err { OnErr result (GainsFront (S.held out.old) (S.held out.new) text.now) }
-    ensures cause { IfErr result (WriteCause (S.faults out.old) (S.faults out.new)) }
-    ensures later { S.faults out.old ≤ S.faults out.new }
-    ensures calm { OnOk result (S.faults out.new ≡ S.faults out.old) }
-{
-    match put_all(out, text.bytes()) {
-        Ok(()) => Ok(()),
-        Err(SinkFault::Failed) => Err(Refusal::OutputFailed),
-        Err(SinkFault::NoMemory) => Err(Refusal::NoMemory),
     }
 }
 
@@ -89,24 +109,4 @@ fn scan_root<T: Tree, K: Store, S: Sink, L: Ledger>(
 {
     let answers = answer_root(alloc, asked, given, tree, steps)?;
     leave(alloc, &asked.file, &answers, store, out)
-}
-
-/// Scans, and answers whether there are reports.
-#[tactic(auto, using(crate::proofs::Scanned::unfetched, crate::proofs::Performed::unbegun))]
-pub(crate) fn scan<T: Tree, K: Store, S: Sink, L: Ledger>(
-    alloc: Global,
-    asked: &Asked,
-    tree: &mut T,
-    store: &mut K,
-    out: &mut S,
-    steps: &mut Steps<L>,
-) -> Result<bool, Refusal>
-    ensures { (words : List (List ℕ)) → AsksFor words asked.now → Performs words
-        (world (T.entered tree.old) (T.files tree.old) (T.faults tree.old) (K.files store.old) (K.faults store.old) (S.held out.old) (S.faults out.old) steps.old)
-        (world (T.entered tree.new) (T.files tree.new) (T.faults tree.new) (K.files store.new) (K.faults store.new) (S.held out.new) (S.faults out.new) steps.new)
-        result }
-{
-    tree.enter(alloc, &asked.root)?;
-    let given = given(alloc, asked, store)?;
-    scan_root(alloc, asked, &given, tree, store, out, steps)
 }

@@ -3,7 +3,7 @@
 //! Costs what drawing it, `load` and `judge` cost.
 ghost use Rattle.std.specs.Prelude.{◌≡◌, ◌++◌, ℕ, List, Option, Ok, IfOk, OnOk, decimal, length};
 ghost use Rattle.gv_base.specs.FileMap.{FileMap};
-ghost use Rattle.gv_demo.specs.Demo.{demo};
+ghost use Rattle.gv_demo.specs.Files.{demo};
 ghost use Rattle.gv_load.specs.Loading.{loading};
 ghost use Rattle.gv_load.specs.Look.{look_of};
 ghost use Rattle.gv_checks.specs.Queries.{queries};
@@ -24,6 +24,24 @@ use gv_load::{Repo, load};
 use gv_report::{Options, selected_law};
 use gv_words::default_options;
 use std::alloc::Global;
+
+/// Writes the summary of the demo repository of a number. Neither tree, store nor input is touched, and no certificate kept.
+#[tactic(auto, using(crate::proofs::Summed::unsummed, crate::proofs::Summed::cut, crate::proofs::Summed::summed))]
+pub(crate) fn write_summary<S: Sink, L: Ledger>(
+    alloc: Global,
+    number: u64,
+    out: &mut S,
+    steps: &mut Steps<L>,
+) -> Result<bool, Refusal>
+    ensures { (words : List (List ℕ)) (root : Option (List ℕ)) (files : Option FileMap) (tree_faults : ℕ) (kept : Option FileMap) (store_faults : ℕ) → AsksForDemo words number → Performs words
+        (world root files tree_faults kept store_faults (S.held out.old) (S.faults out.old) steps.old)
+        (world root files tree_faults kept store_faults (S.held out.new) (S.faults out.new) steps.new)
+        result }
+{
+    let summary = summary_of(alloc, number, steps)?;
+    write(out, &summary)?;
+    Ok(false)
+}
 
 // How many lines a text has.
 fn line_count(text: &[u8]) -> u64
@@ -102,22 +120,4 @@ fn summary_of<L: Ledger>(alloc: Global, number: u64, steps: &mut Steps<L>) -> Re
     let repo = drawn(alloc, number)?;
     let text = demo_text(alloc, &repo, &options, steps)?;
     summary_text(alloc, &text)
-}
-
-/// Writes the summary of the demo repository of a number. Neither tree, store nor input is touched, and no certificate kept.
-#[tactic(auto, using(crate::proofs::Summed::unsummed, crate::proofs::Summed::cut, crate::proofs::Summed::summed))]
-pub(crate) fn write_summary<S: Sink, L: Ledger>(
-    alloc: Global,
-    number: u64,
-    out: &mut S,
-    steps: &mut Steps<L>,
-) -> Result<bool, Refusal>
-    ensures { (words : List (List ℕ)) (root : Option (List ℕ)) (files : Option FileMap) (tree_faults : ℕ) (kept : Option FileMap) (store_faults : ℕ) → AsksForDemo words number → Performs words
-        (world root files tree_faults kept store_faults (S.held out.old) (S.faults out.old) steps.old)
-        (world root files tree_faults kept store_faults (S.held out.new) (S.faults out.new) steps.new)
-        result }
-{
-    let summary = summary_of(alloc, number, steps)?;
-    write(out, &summary)?;
-    Ok(false)
 }

@@ -16,16 +16,6 @@ pub enum Verdict {
     OtherText { offset: u64 },
 }
 
-fn with_number(alloc: Global, head: &[u8], number: u64, end: &[u8]) -> Result<Text, NoMemory>
-    ensures { IfOk result (λ text. text ≡ head.now ++ (decimal number ++ end.now)) }
-{
-    let digits = number.to_string(alloc)?;
-    let mut text = Text::of(alloc, head)?;
-    text.append(digits.as_bytes())?;
-    text.append(end)?;
-    Ok(text)
-}
-
 /// The line that says so.
 pub(crate) fn verdict_text(alloc: Global, verdict: &Verdict) -> Result<Text, NoMemory>
     ensures { IfOk result (λ text. text ≡ verdict_text verdict.now) }
@@ -52,4 +42,14 @@ pub(crate) fn is_refused(verdict: &Verdict) -> bool
         Verdict::NotBacked { .. } => true,
         Verdict::OtherText { .. } => true,
     }
+}
+
+fn with_number(alloc: Global, head: &[u8], number: u64, end: &[u8]) -> Result<Text, NoMemory>
+    ensures { IfOk result (λ text. text ≡ head.now ++ (decimal number ++ end.now)) }
+{
+    let digits = number.to_string(alloc)?;
+    let mut text = Text::of(alloc, head)?;
+    text.append(digits.as_bytes())?;
+    text.append(end)?;
+    Ok(text)
 }

@@ -29,6 +29,25 @@ struct Evidence {
     report: Text,
 }
 
+/// Verifies, and answers whether the report is refused.
+#[tactic(auto, using(crate::proofs::Performed::unbegun))]
+pub(crate) fn verify_report<T: Tree, K: Store, S: Sink, L: Ledger>(
+    alloc: Global,
+    verification: &Verification,
+    tree: &mut T,
+    store: &mut K,
+    out: &mut S,
+    steps: &mut Steps<L>,
+) -> Result<bool, Refusal>
+    ensures { (words : List (List ℕ)) → AsksToVerify words verification.now → Performs words
+        (world (T.entered tree.old) (T.files tree.old) (T.faults tree.old) (K.files store.old) (K.faults store.old) (S.held out.old) (S.faults out.old) steps.old)
+        (world (T.entered tree.new) (T.files tree.new) (T.faults tree.new) (K.files store.new) (K.faults store.new) (S.held out.new) (S.faults out.new) steps.new)
+        result }
+{
+    tree.enter(alloc, &verification.root)?;
+    verify_root(alloc, verification, tree, store, out, steps)
+}
+
 // The certificate file comes first.
 #[tactic(auto, using(crate::proofs::Verified::first_untaken, crate::proofs::Verified::second_untaken, crate::proofs::Verified::are_fetched))]
 fn take<K: Store>(
@@ -117,23 +136,4 @@ fn verify_root<T: Tree, K: Store, S: Sink, L: Ledger>(
     let text = verdict_text(alloc, &verdict)?;
     write(out, &text)?;
     Ok(is_refused(&verdict))
-}
-
-/// Verifies, and answers whether the report is refused.
-#[tactic(auto, using(crate::proofs::Performed::unbegun))]
-pub(crate) fn verify_report<T: Tree, K: Store, S: Sink, L: Ledger>(
-    alloc: Global,
-    verification: &Verification,
-    tree: &mut T,
-    store: &mut K,
-    out: &mut S,
-    steps: &mut Steps<L>,
-) -> Result<bool, Refusal>
-    ensures { (words : List (List ℕ)) → AsksToVerify words verification.now → Performs words
-        (world (T.entered tree.old) (T.files tree.old) (T.faults tree.old) (K.files store.old) (K.faults store.old) (S.held out.old) (S.faults out.old) steps.old)
-        (world (T.entered tree.new) (T.files tree.new) (T.faults tree.new) (K.files store.new) (K.faults store.new) (S.held out.new) (S.faults out.new) steps.new)
-        result }
-{
-    tree.enter(alloc, &verification.root)?;
-    verify_root(alloc, verification, tree, store, out, steps)
 }

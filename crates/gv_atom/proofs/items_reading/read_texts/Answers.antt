@@ -3,7 +3,7 @@ use Rattle.std.specs.Prelude.{filter_map}
 use Rattle.std.specs.List.{slice_split}
 use Rattle.std.specs.Str.{byte}
 use Rattle.gv_atom.specs.declared.items.UseItem.{UseItem}
-use Rattle.gv_atom.specs.AtomRead.{bad_item, item_of}
+use Rattle.gv_atom.specs.Reading.{bad_item, item_of}
 use Rattle.gv_atom.proofs.items_reading.read_texts.Goals as goal
 
 next_place : (place next : ℕ) (text : List ℕ) (more : List (List ℕ)) (item : UseItem) → item_of text ≡ Some item → place + length text + 1 ≡ next

@@ -2,7 +2,7 @@ use Rattle.std.proofs.Common.{◌≡◌, ◌-◌, ◌≤◌, ◌==◌, ◌++◌,
 use Rattle.std.specs.Prelude.{filter_map}
 use Rattle.std.specs.List.{slice_split}
 use Rattle.std.specs.Str.{byte}
-use Rattle.gv_atom.specs.AtomRead.{bad_item, item_of}
+use Rattle.gv_atom.specs.Reading.{bad_item, item_of}
 use Rattle.gv_atom.proofs.items_reading.read_texts.Given as goal
 
 abbrev pub invariant-texts : goal.invariant-texts

@@ -1,5 +1,5 @@
 use Rattle.std.proofs.Common.{◌≡◌, ◌++◌, take}
-use Rattle.gv_atom.specs.AtomPrinting.{more_items_text}
+use Rattle.gv_atom.specs.Printing.{more_items_text}
 use Rattle.gv_atom.proofs.printing.append_more.Given as goal
 
 abbrev pub invariant-loop-item : goal.invariant-loop-item

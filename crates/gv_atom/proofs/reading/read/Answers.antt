@@ -2,9 +2,9 @@ use Rattle.std.proofs.Common.{◌≡◌, ℕ, List, subst}
 use Rattle.std.proofs.lemmas.Result.{IfErr-weaker}
 use Rattle.gv_atom.specs.declared.fault.AtomFault.{AtomFault}
 use Rattle.gv_atom.specs.declared.fault.AtomFault.TheVariants.{Bad, NoMemory}
-use Rattle.gv_atom.specs.AtomFaults.{IsFaultOf}
-use Rattle.gv_atom.specs.AtomRead.{Division, divided, division_fault}
-use Rattle.gv_atom.specs.AtomReading.{IsPartFault, shown}
+use Rattle.gv_atom.specs.Fault.{IsFaultOf}
+use Rattle.gv_atom.specs.Reading.{Division, divided, division_fault}
+use Rattle.gv_atom.specs.Parts.{IsPartFault, shown}
 use Rattle.gv_atom.proofs.reading.read.Goals as goal
 
 whole_fault : (bytes : List ℕ) (fault : AtomFault) → IsPartFault (division_fault (divided bytes)) fault → IsFaultOf bytes fault

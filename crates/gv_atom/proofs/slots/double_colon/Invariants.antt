@@ -1,5 +1,5 @@
 use Rattle.std.proofs.Common.{◌≡◌, ◌-◌, ◌≤◌, length}
-use Rattle.gv_atom.specs.AtomRead.{double_colon}
+use Rattle.gv_atom.specs.Reading.{double_colon}
 use Rattle.gv_atom.proofs.slots.double_colon.Given as goal
 
 abbrev pub invariant-loop-rest : goal.invariant-loop-rest

@@ -2,7 +2,7 @@ use Rattle.std.proofs.Common.{◌≡◌, ◌==◌, true, false, ◌∷◌, sym, 
 use Rattle.std.specs.List.{slice_split}
 use Rattle.std.specs.Str.{byte}
 use Rattle.gv_version.specs.Names.{is_slot}
-use Rattle.gv_atom.specs.AtomRead.{need_of}
+use Rattle.gv_atom.specs.Reading.{need_of}
 use Rattle.gv_atom.proofs.Splitting.{with_sub, no_sub}
 use Rattle.gv_atom.proofs.slots.need_of.Goals as goal
 

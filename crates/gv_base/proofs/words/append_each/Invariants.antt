@@ -1,5 +1,5 @@
 use Rattle.std.proofs.Common.{◌≡◌, ◌++◌, drop}
-use Rattle.gv_base.specs.Words.{each_behind}
+use Rattle.gv_base.specs.PrivateWords.{each_behind}
 use Rattle.gv_base.proofs.words.append_each.Given as goal
 
 abbrev pub invariant-loop-item : goal.invariant-loop-item

@@ -1,5 +1,5 @@
 use Rattle.std.proofs.Common.{refl}
-use Rattle.gv_checks.specs.Judged.{case_of}
+use Rattle.gv_checks.specs.Context.{case_of}
 use Rattle.gv_checks.specs.Queries.{gates_of, query_of}
 use Rattle.gv_checks.specs.Shared.{IsLoweredAs}
 use Rattle.gv_checks.proofs.JudgeLemmas.{query_judged, query_refused, some_used}

@@ -1,5 +1,5 @@
 use Rattle.std.proofs.Common.{◌≡◌, ◌++◌, drop, filter}
-use Rattle.gv_report.specs.Selected.{selected}
+use Rattle.gv_report.specs.Selecting.{selected}
 use Rattle.gv_checks.proofs.plainly.add_selected.Given as goal
 
 abbrev pub invariant-loop-report : goal.invariant-loop-report

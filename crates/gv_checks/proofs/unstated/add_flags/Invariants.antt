@@ -1,5 +1,5 @@
 use Rattle.std.proofs.Common.{◌≡◌, ◌++◌, drop, filter, map}
-use Rattle.gv_checks.specs.Judged.{case_of}
+use Rattle.gv_checks.specs.Context.{case_of}
 use Rattle.gv_checks.specs.RepoReports.{is_unstated, unstated}
 use Rattle.gv_checks.proofs.unstated.add_flags.Given as goal
 

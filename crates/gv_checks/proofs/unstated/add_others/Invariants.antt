@@ -1,6 +1,6 @@
 use Rattle.std.proofs.Common.{◌≡◌, ◌++◌, drop}
 use Rattle.std.specs.Prelude.{flat_map}
-use Rattle.gv_checks.specs.Judged.{case_of}
+use Rattle.gv_checks.specs.Context.{case_of}
 use Rattle.gv_checks.specs.Plain.{unstated_among}
 use Rattle.gv_checks.proofs.unstated.add_others.Given as goal
 

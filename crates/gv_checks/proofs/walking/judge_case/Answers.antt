@@ -1,6 +1,6 @@
 use Rattle.std.proofs.Common.{subst, map, filter, List}
 use Rattle.gv_facts.specs.declared.kinds.Class.{Class}
-use Rattle.gv_checks.specs.Judged.{case_of}
+use Rattle.gv_checks.specs.Context.{case_of}
 use Rattle.gv_checks.specs.Progress.{Judges}
 use Rattle.gv_checks.specs.Queries.{is_asked, query_of}
 use Rattle.gv_checks.proofs.walking.judge_case.Goals as goal

@@ -1,5 +1,5 @@
 use Rattle.std.proofs.Common.{rules, sym, ◌∙◌}
-use Rattle.gv_checks.specs.Judged.{case_of}
+use Rattle.gv_checks.specs.Context.{case_of}
 use Rattle.gv_checks.proofs.WalkLemmas.{class_end, class_err, class_next, class_passed}
 use Rattle.gv_checks.proofs.walking.judge_classes.Goals.{then-is_asked+in-Ok, else-is_asked}
 use Rattle.gv_checks.proofs.walking.judge_classes.Goals as goal

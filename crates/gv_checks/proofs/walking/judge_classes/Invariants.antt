@@ -1,5 +1,5 @@
 use Rattle.std.proofs.Common.{drop, map, filter}
-use Rattle.gv_checks.specs.Judged.{case_of}
+use Rattle.gv_checks.specs.Context.{case_of}
 use Rattle.gv_checks.specs.Queries.{is_asked, query_of}
 use Rattle.gv_checks.specs.Shared.{AreShared}
 use Rattle.gv_checks.specs.Walks.{IsWalk}

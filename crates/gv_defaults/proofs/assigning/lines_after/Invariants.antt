@@ -1,5 +1,5 @@
 use Rattle.std.proofs.Common.{◌≡◌, drop}
-use Rattle.gv_defaults.specs.Assignments.{lines_after}
+use Rattle.gv_defaults.specs.Items.{lines_after}
 use Rattle.gv_defaults.proofs.assigning.lines_after.Given as goal
 
 abbrev pub invariant-loop-b : goal.invariant-loop-b

@@ -1,6 +1,6 @@
 use Rattle.std.proofs.Common.{◌≡◌, ◌++◌, length}
 use Rattle.gv_base.specs.ByteMap.{map_of}
-use Rattle.gv_defaults.specs.LookUp.{stands_for}
+use Rattle.gv_defaults.specs.Reads.{stands_for}
 use Rattle.gv_defaults.specs.Meaning.{meaning, meaning_of}
 use Rattle.gv_defaults.proofs.meaning.meaning.Given as goal
 

@@ -1,6 +1,7 @@
 use Rattle.std.proofs.Common.{◌≡◌, ◌++◌, refl, subst, sym, ◌∙◌}
 use Rattle.std.specs.Prelude.{option_map}
-use Rattle.gv_entry.specs.Digests.{between_tabs, eclasses_in, fields_left}
+use Rattle.gv_entry.specs.Digests.{between_tabs, eclasses_in}
+use Rattle.gv_entry.specs.PrivateWords.{fields_left}
 use Rattle.gv_entry.proofs.TabCuts.{pair_read}
 use Rattle.gv_entry.proofs.digests.read_pairs.Goals as goal
 

@@ -1,6 +1,7 @@
 use Rattle.std.proofs.Common.{◌≡◌, ◌++◌, length}
 use Rattle.std.specs.Prelude.{option_map}
-use Rattle.gv_entry.specs.Digests.{between_tabs, eclasses_in, fields_left}
+use Rattle.gv_entry.specs.Digests.{between_tabs, eclasses_in}
+use Rattle.gv_entry.specs.PrivateWords.{fields_left}
 use Rattle.gv_entry.proofs.digests.read_pairs.Given as goal
 
 abbrev pub invariant-loop-name : goal.invariant-loop-name

@@ -1,6 +1,6 @@
 use Rattle.std.proofs.Common.{◌≡◌, length, drop, arith, ap, length-drop, subst, sym, true, ◌∙◌, ◌+◌}
 use Rattle.std.specs.Prelude.{unwrap_or}
-use Rattle.gv_version.specs.VersionForm.{is_version}
+use Rattle.gv_version.specs.Form.{is_version}
 use Rattle.gv_entry.proofs.Hyphens.{behind_hyphen, within}
 use Rattle.gv_entry.proofs.entry_read.name_and_version.Goals as goal
 

@@ -1,6 +1,6 @@
 use Rattle.std.proofs.Common.{subst}
-use Rattle.gv_expr.specs.ExprFaults.{FaultIs}
-use Rattle.gv_expr.specs.Tokens.{tokens_of}
+use Rattle.gv_expr.specs.Fault.{FaultIs}
+use Rattle.gv_expr.specs.Token.{tokens_of}
 use Rattle.gv_expr.specs.TokenFaults.{first_fault, required_use}
 use Rattle.gv_entry.proofs.ClassFaults.{required_broken, required_whole}
 use Rattle.gv_entry.proofs.entry_read.required_in.Goals as goal

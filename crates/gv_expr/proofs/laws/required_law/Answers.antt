@@ -1,6 +1,6 @@
 use Rattle.std.proofs.Common.{refl}
-use Rattle.gv_expr.specs.Req.{reqs}
-use Rattle.gv_expr.specs.ReqGrammar.{req_text}
+use Rattle.gv_expr.specs.Required.{reqs}
+use Rattle.gv_expr.specs.RequiredGrammar.{req_text}
 use Rattle.gv_expr.proofs.ReqFound.{read_both, fault_both}
 use Rattle.gv_expr.proofs.TokensAgain.{req_again}
 use Rattle.gv_expr.proofs.laws.required_law.Goals as goal

@@ -1,7 +1,7 @@
 use Rattle.std.proofs.Common.{◌≡◌, ◌++◌, drop}
 use Rattle.gv_expr.specs.Dep.{deps}
 use Rattle.gv_expr.specs.DepView.{view_of}
-use Rattle.gv_expr.specs.Mentioned.{dep_mentions}
+use Rattle.gv_expr.specs.Mentions.{dep_mentions}
 use Rattle.gv_expr.proofs.mentions.+deps.Given as goal
 
 abbrev pub invariant-add_deps-loop-tree : goal.invariant-add_deps-loop-tree

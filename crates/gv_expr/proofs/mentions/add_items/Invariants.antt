@@ -1,6 +1,6 @@
 use Rattle.std.proofs.Common.{◌≡◌, ◌++◌, drop}
 use Rattle.gv_atom.specs.declared.atom.Block.TheVariants.{No}
-use Rattle.gv_expr.specs.Mentioned.{item_mentions}
+use Rattle.gv_expr.specs.Mentions.{item_mentions}
 use Rattle.gv_expr.proofs.mentions.add_items.Given as goal
 
 abbrev pub invariant-loop-item : goal.invariant-loop-item

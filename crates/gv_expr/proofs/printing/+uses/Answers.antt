@@ -1,7 +1,7 @@
 use Rattle.std.proofs.Common.{◌++◌, [], ◌∷◌}
-use Rattle.gv_expr.specs.Req.{reqs}
-use Rattle.gv_expr.specs.ReqGrammar.{req_tokens}
-use Rattle.gv_expr.specs.ReqView.{req_of, view_of}
+use Rattle.gv_expr.specs.Required.{reqs}
+use Rattle.gv_expr.specs.RequiredGrammar.{req_tokens}
+use Rattle.gv_expr.specs.RequiredView.{req_of, view_of}
 use Rattle.gv_expr.specs.Spaced.{spaced}
 use Rattle.gv_expr.proofs.SpacedLemmas.{req_first, step_printed}
 use Rattle.gv_expr.proofs.printing.+uses.Goals as goal

@@ -1,7 +1,7 @@
 use Rattle.std.proofs.Common.{◌≡◌, ◌++◌, drop}
-use Rattle.gv_expr.specs.Req.{reqs}
-use Rattle.gv_expr.specs.ReqView.{view_of}
-use Rattle.gv_expr.specs.ReqGrammar.{req_tokens}
+use Rattle.gv_expr.specs.Required.{reqs}
+use Rattle.gv_expr.specs.RequiredView.{view_of}
+use Rattle.gv_expr.specs.RequiredGrammar.{req_tokens}
 use Rattle.gv_expr.specs.Spaced.{spaced}
 use Rattle.gv_expr.proofs.printing.+uses.Given as goal
 

@@ -1,7 +1,7 @@
 use Rattle.std.proofs.Common.{◌≡◌, ◌≤◌, length}
 use Rattle.gv_base.specs.declared.pieces.Cut.TheVariants.{Tokens}
 use Rattle.gv_base.specs.Pieces.{left}
-use Rattle.gv_expr.specs.Tokens.{tokens_in}
+use Rattle.gv_expr.specs.Spaced.{tokens_in}
 use Rattle.gv_expr.proofs.reading.next_word.Given as goal
 
 abbrev pub invariant-loop-piece : goal.invariant-loop-piece

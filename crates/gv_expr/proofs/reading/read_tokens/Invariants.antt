@@ -1,7 +1,8 @@
 use Rattle.std.proofs.Common.{◌≡◌, ◌++◌, ◌≤◌, length}
 use Rattle.gv_base.specs.declared.pieces.Cut.TheVariants.{Tokens}
 use Rattle.gv_base.specs.Pieces.{left}
-use Rattle.gv_expr.specs.Tokens.{tokens_in, tokens_of}
+use Rattle.gv_expr.specs.Token.{tokens_of}
+use Rattle.gv_expr.specs.Spaced.{tokens_in}
 use Rattle.gv_expr.specs.TokenFaults.{first_fault, fault_from}
 use Rattle.gv_expr.proofs.reading.read_tokens.Given as goal
 

@@ -1,5 +1,5 @@
 use Rattle.std.proofs.Common.{◌≡◌, ◌++◌, drop}
-use Rattle.gv_expr.specs.ReqView.{view_of}
+use Rattle.gv_expr.specs.RequiredView.{view_of}
 use Rattle.gv_expr.proofs.required.+copy.Given as goal
 
 abbrev pub invariant-UseExpr::copy-loop-tree : goal.invariant-UseExpr::copy-loop-tree

@@ -1,7 +1,7 @@
 use Rattle.std.proofs.Common.{◌∷◌, [], ◌++◌, refl}
 use Rattle.gv_load.specs.Categories.{folders}
 use Rattle.gv_load.specs.Layout.{layout}
-use Rattle.gv_load.specs.Look.{look_in}
+use Rattle.gv_load.specs.Causes.{look_in}
 use Rattle.gv_load.specs.Order.{folder_lists}
 use Rattle.gv_load.specs.Paths.{cache_dir}
 use Rattle.gv_load.specs.Reading.{list}

@@ -1,7 +1,7 @@
 use Rattle.std.proofs.Common.{◌≡◌, ◌++◌, drop}
 use Rattle.std.specs.Prelude.{flat_map}
 use Rattle.gv_load.specs.Categories.{ebuilds_in}
-use Rattle.gv_load.specs.Look.{IsTold, look_in, around}
+use Rattle.gv_load.specs.Causes.{IsTold, look_in, around}
 use Rattle.gv_load.specs.Order.{folder_lists}
 use Rattle.gv_load.specs.Reading.{passed}
 use Rattle.gv_load.proofs.categories.list_folders.Given as goal

@@ -1,5 +1,5 @@
 use Rattle.std.proofs.Common.{◌≡◌, true, sym, subst, ap, ◌∙◌}
-use Rattle.gv_version.specs.VersionForm.{is_version}
+use Rattle.gv_version.specs.Form.{is_version}
 use Rattle.gv_load.specs.Categories.{version_of}
 use Rattle.gv_load.proofs.PfVersions.{version_is}
 use Rattle.gv_load.proofs.categories.pf_subject.Goals as goal

@@ -1,7 +1,7 @@
 use Rattle.std.proofs.Common.{◌++◌, refl, ◌∙◌}
 use Rattle.gv_load.specs.Directories.{head_steps, flag_steps, package_steps}
 use Rattle.gv_load.specs.Layout.{layout}
-use Rattle.gv_load.specs.Look.{look_in}
+use Rattle.gv_load.specs.Causes.{look_in}
 use Rattle.gv_load.proofs.Passing.{front_cause, back_cause, both_went, moved_went, moved_cause}
 use Rattle.gv_load.proofs.directories.read_inside.Goals as goal
 

@@ -1,10 +1,10 @@
 use Rattle.std.proofs.Common.{◌≡◌, ◌∷◌, [], ◌+◌, drop, refl, subst, ◌∙◌, arith}
 use Rattle.std.specs.Prelude.{Option, List, ℕ}
 use Rattle.gv_base.specs.FileMap.{FileMap}
-use Rattle.gv_load.specs.DigestMap.{digests_with}
+use Rattle.gv_load.specs.DigestWords.{digests_with}
 use Rattle.gv_load.specs.Entries.{eclass_digest}
 use Rattle.gv_load.specs.Layout.{layout}
-use Rattle.gv_load.specs.Look.{IsTold, look_in}
+use Rattle.gv_load.specs.Causes.{IsTold, look_in}
 use Rattle.gv_load.specs.Order.{eclass_steps}
 use Rattle.gv_load.specs.Paths.{eclass_path}
 use Rattle.gv_load.specs.Reading.{once}

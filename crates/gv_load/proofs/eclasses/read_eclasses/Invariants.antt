@@ -1,7 +1,6 @@
 use Rattle.std.proofs.Common.{◌≡◌, drop, take}
-use Rattle.gv_load.specs.Causes.{Knows}
-use Rattle.gv_load.specs.DigestMap.{KeepsDigests}
-use Rattle.gv_load.specs.Look.{IsTold, look_in, around}
+use Rattle.gv_load.specs.Causes.{Knows, IsTold, look_in, around}
+use Rattle.gv_load.specs.DigestWords.{KeepsDigests}
 use Rattle.gv_load.specs.Order.{eclass_steps}
 use Rattle.gv_load.specs.Reading.{passed}
 use Rattle.gv_load.proofs.eclasses.read_eclasses.Given as goal

@@ -3,7 +3,7 @@ use Rattle.std.specs.Prelude.{Option}
 use Rattle.gv_base.specs.FileMap.{FileMap}
 use Rattle.gv_load.specs.Entries.{reads_of, all_reads}
 use Rattle.gv_load.specs.Layout.{layout}
-use Rattle.gv_load.specs.Look.{IsTold, look_in}
+use Rattle.gv_load.specs.Causes.{IsTold, look_in}
 use Rattle.gv_load.specs.Order.{category_steps, categories_steps}
 use Rattle.gv_load.proofs.Passing.{next_item, next_went, here_refused, moved_went, moved_cause}
 use Rattle.gv_load.proofs.PfLemmas.{more_values}

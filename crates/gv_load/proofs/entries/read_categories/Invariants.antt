@@ -1,7 +1,6 @@
 use Rattle.std.proofs.Common.{◌≡◌, ◌++◌, drop}
-use Rattle.gv_load.specs.Causes.{Knows}
+use Rattle.gv_load.specs.Causes.{Knows, IsTold, look_in, around}
 use Rattle.gv_load.specs.Entries.{all_reads}
-use Rattle.gv_load.specs.Look.{IsTold, look_in, around}
 use Rattle.gv_load.specs.Order.{categories_steps}
 use Rattle.gv_load.specs.Reading.{passed}
 use Rattle.gv_load.proofs.entries.read_categories.Given as goal

@@ -6,7 +6,7 @@ use Rattle.std.specs.Prelude.{List}
 use Rattle.gv_load.specs.Categories.{listed, pfs_of}
 use Rattle.gv_load.specs.Entries.{pf_read}
 use Rattle.gv_load.specs.Layout.{layout}
-use Rattle.gv_load.specs.Look.{IsTold, look_in}
+use Rattle.gv_load.specs.Causes.{IsTold, look_in}
 use Rattle.gv_load.specs.Order.{listing_steps, pfs_steps}
 use Rattle.gv_load.proofs.DirLemmas.{same_went, same_refused}
 use Rattle.gv_load.proofs.Passing.{front_cause, back_cause, both_went, moved_went, moved_cause}

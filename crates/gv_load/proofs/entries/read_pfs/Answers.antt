@@ -5,7 +5,7 @@ use Rattle.gv_base.specs.FileMap.{FileMap}
 use Rattle.gv_load.specs.Categories.{is_pf}
 use Rattle.gv_load.specs.Entries.{pf_read}
 use Rattle.gv_load.specs.Layout.{layout}
-use Rattle.gv_load.specs.Look.{IsTold, look_in}
+use Rattle.gv_load.specs.Causes.{IsTold, look_in}
 use Rattle.gv_load.specs.Order.{pf_steps, pfs_steps}
 use Rattle.gv_load.proofs.Passing.{next_item, next_went, here_refused, moved_went, moved_cause}
 use Rattle.gv_load.proofs.PfLemmas.{more_values, later}

@@ -1,9 +1,8 @@
 use Rattle.std.proofs.Common.{◌≡◌, ◌++◌, drop, map, true}
 use Rattle.std.specs.List.{list_all}
 use Rattle.gv_load.specs.Categories.{is_pf}
-use Rattle.gv_load.specs.Causes.{Knows}
+use Rattle.gv_load.specs.Causes.{Knows, IsTold, look_in, around}
 use Rattle.gv_load.specs.Entries.{pf_read}
-use Rattle.gv_load.specs.Look.{IsTold, look_in, around}
 use Rattle.gv_load.specs.Order.{pfs_steps}
 use Rattle.gv_load.specs.Reading.{passed}
 use Rattle.gv_load.proofs.entries.read_pfs.Given as goal

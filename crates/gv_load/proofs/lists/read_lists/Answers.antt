@@ -1,8 +1,8 @@
 use Rattle.std.proofs.Common.{◌∷◌, [], refl, ◌∙◌}
 use Rattle.gv_load.specs.Directories.{file_steps}
-use Rattle.gv_load.specs.Look.{look_in}
+use Rattle.gv_load.specs.Causes.{look_in}
 use Rattle.gv_load.specs.Paths.{desc_path, categories_path, mask_path}
-use Rattle.gv_load.specs.Read.{top_paths}
+use Rattle.gv_load.specs.PartsRead.{top_paths}
 use Rattle.gv_load.specs.Reading.{need}
 use Rattle.gv_load.proofs.Passing.{front_cause, back_cause, both_went, moved_went, moved_cause}
 use Rattle.gv_load.proofs.lists.read_lists.Goals as goal

@@ -1,7 +1,6 @@
 use Rattle.std.proofs.Common.{subst, sym}
-use Rattle.gv_load.specs.Causes.{Cause, Knows, Went}
-use Rattle.gv_load.specs.Known.{Seen}
-use Rattle.gv_load.specs.Look.{look_in}
+use Rattle.gv_load.specs.Causes.{Cause, Knows, Went, look_in}
+use Rattle.gv_load.specs.Reader.{Seen}
 use Rattle.gv_load.specs.Order.{load_steps}
 use Rattle.gv_load.specs.Reading.{passed}
 use Rattle.gv_load.proofs.LoadLemmas.{load_is, load_cause}

@@ -1,11 +1,11 @@
 use Rattle.std.proofs.Common.{◌≡◌, ◌++◌, refl, subst, ◌∙◌}
 use Rattle.std.specs.Prelude.{Option}
 use Rattle.gv_base.specs.FileMap.{FileMap}
-use Rattle.gv_load.specs.Judging.{all_kept}
+use Rattle.gv_load.specs.Freshness.{all_kept}
 use Rattle.gv_load.specs.Layout.{layout}
-use Rattle.gv_load.specs.Look.{IsTold, look_in}
+use Rattle.gv_load.specs.Causes.{IsTold, look_in}
 use Rattle.gv_load.specs.Order.{list_steps, packages_steps, profiles_steps}
-use Rattle.gv_load.specs.Read.{profiled_of}
+use Rattle.gv_load.specs.PartsRead.{profiled_of}
 use Rattle.gv_load.proofs.LoadLemmas.{all_went, all_refused, lists_refused, repo_is}
 use Rattle.gv_load.proofs.Passing.{front_cause, back_cause, both_went, moved_went, moved_cause}
 use Rattle.gv_load.proofs.loading.read_repo.Goals as goal

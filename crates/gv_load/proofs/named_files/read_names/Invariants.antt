@@ -1,7 +1,6 @@
 use Rattle.std.proofs.Common.{◌≡◌, ◌++◌, drop}
-use Rattle.gv_load.specs.Causes.{Knows}
+use Rattle.gv_load.specs.Causes.{Knows, IsTold, look_in, around}
 use Rattle.gv_load.specs.Directories.{folder_files, name_steps}
-use Rattle.gv_load.specs.Look.{IsTold, look_in, around}
 use Rattle.gv_load.specs.Reading.{passed}
 use Rattle.gv_load.proofs.named_files.read_names.Given as goal
 

@@ -1,11 +1,11 @@
 use Rattle.std.proofs.Common.{◌≡◌, refl, subst, ap, sym, ◌∙◌, map}
 use Rattle.std.specs.Prelude.{Option}
 use Rattle.gv_base.specs.FileMap.{FileMap}
-use Rattle.gv_load.specs.DigestMap.{KeepsDigests}
+use Rattle.gv_load.specs.DigestWords.{KeepsDigests}
 use Rattle.gv_load.specs.Entries.{all_reads, eclass_digest, eclass_names}
-use Rattle.gv_load.specs.Judging.{pf_kept}
+use Rattle.gv_load.specs.Freshness.{pf_kept}
 use Rattle.gv_load.specs.Layout.{layout}
-use Rattle.gv_load.specs.Look.{IsTold, look_in}
+use Rattle.gv_load.specs.Causes.{IsTold, look_in}
 use Rattle.gv_load.specs.Order.{categories_steps, eclass_steps}
 use Rattle.gv_load.proofs.DirLemmas.{same_went, same_refused}
 use Rattle.gv_load.proofs.Passing.{front_cause, back_cause, both_went, moved_went, moved_cause}

@@ -5,8 +5,8 @@ use Rattle.std.proofs.lemmas.Option.{slice_get_past}
 use Rattle.gv_load.proofs.Drops.{read_at}
 use Rattle.gv_load.specs.Ahead.{reached_after}
 use Rattle.gv_load.specs.Directories.{dir_at}
-use Rattle.gv_load.specs.Look.{look_in}
-use Rattle.gv_load.specs.Reach.{reach_below}
+use Rattle.gv_load.specs.Causes.{look_in}
+use Rattle.gv_load.specs.Reaching.{reach_below}
 use Rattle.gv_load.specs.Closed.{IsClosedBut, paths_left}
 use Rattle.gv_load.proofs.Closing.{closed_next, closed_done}
 use Rattle.gv_load.proofs.Reaches.{next_path, no_path, same_whole}

@@ -4,16 +4,15 @@ use Rattle.std.specs.Prelude.{Option, Ok}
 use Rattle.gv_profile.specs.declared.desc.DescLine.{DescLine}
 use Rattle.gv_base.specs.FileMap.{FileMap}
 use Rattle.gv_base.specs.Order.{has_text}
-use Rattle.gv_profile.specs.Walk.{line_dir}
-use Rattle.gv_load.specs.Ahead.{KeepsDirs, steps_of}
-use Rattle.gv_load.specs.Causes.{Knows}
+use Rattle.gv_profile.specs.Walking.{line_dir}
+use Rattle.gv_load.specs.Ahead.{KeepsDirs}
+use Rattle.gv_load.specs.Directories.{steps_of, dir_at}
+use Rattle.gv_load.specs.Causes.{Knows, IsTold, look_in}
 use Rattle.gv_load.specs.Closed.{IsClosed}
 use Rattle.gv_load.proofs.Closing.{closed_nothing}
 use Rattle.gv_load.proofs.SameStacks.{same_stacks}
-use Rattle.gv_load.specs.Directories.{dir_at}
-use Rattle.gv_load.specs.Known.{Seen}
-use Rattle.gv_load.specs.Look.{IsTold, look_in}
-use Rattle.gv_load.specs.Reach.{from_line, reached_by}
+use Rattle.gv_load.specs.Reader.{Seen}
+use Rattle.gv_load.specs.Reaching.{from_line, reached_by}
 use Rattle.gv_load.specs.Reading.{passed}
 use Rattle.gv_load.proofs.Passing.{next_item}
 use Rattle.gv_load.proofs.Reaches.{keeps_nothing, line_refused}

@@ -1,11 +1,10 @@
 use Rattle.std.proofs.Common.{◌≡◌, drop, []}
 use Rattle.std.specs.Prelude.{Ok}
-use Rattle.gv_load.specs.Ahead.{IsIndexed, KeepsDirs, steps_of}
-use Rattle.gv_load.specs.Causes.{Knows}
+use Rattle.gv_load.specs.Ahead.{IsIndexed, KeepsDirs}
+use Rattle.gv_load.specs.Directories.{steps_of, dir_at}
+use Rattle.gv_load.specs.Causes.{Knows, IsTold, look_in, around}
 use Rattle.gv_load.specs.Closed.{IsClosed}
-use Rattle.gv_load.specs.Directories.{dir_at}
-use Rattle.gv_load.specs.Look.{IsTold, look_in, around}
-use Rattle.gv_load.specs.Reach.{reached_by}
+use Rattle.gv_load.specs.Reaching.{reached_by}
 use Rattle.gv_load.specs.Reading.{passed}
 use Rattle.gv_load.proofs.reaching.read_dirs.Given as goal
 

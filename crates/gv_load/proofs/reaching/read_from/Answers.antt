@@ -3,14 +3,13 @@ use Rattle.std.specs.Prelude.{Option, Ok}
 use Rattle.gv_base.specs.FileMap.{FileMap}
 use Rattle.gv_load.specs.declared.reaching.Ahead.{Ahead}
 use Rattle.std.proofs.Common.{List, length}
-use Rattle.gv_load.specs.Ahead.{reached_after, KeepsDirs, steps_of}
-use Rattle.gv_load.specs.Causes.{Knows}
+use Rattle.gv_load.specs.Ahead.{reached_after, KeepsDirs}
+use Rattle.gv_load.specs.Directories.{steps_of, dir_at}
+use Rattle.gv_load.specs.Causes.{Knows, IsTold, look_in}
 use Rattle.gv_load.specs.Closed.{IsClosedBut, paths_left}
 use Rattle.gv_load.proofs.Closing.{closed_start, closed_end}
-use Rattle.gv_load.specs.Directories.{dir_at}
-use Rattle.gv_load.specs.Known.{Seen}
-use Rattle.gv_load.specs.Look.{IsTold, look_in}
-use Rattle.gv_load.specs.Reach.{reach_below}
+use Rattle.gv_load.specs.Reader.{Seen}
+use Rattle.gv_load.specs.Reaching.{reach_below}
 use Rattle.gv_load.specs.Reading.{passed}
 use Rattle.gv_load.proofs.reaching.read_from.Goals as goal
 

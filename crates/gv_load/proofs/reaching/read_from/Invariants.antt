@@ -1,12 +1,11 @@
 use Rattle.std.proofs.Common.{◌≡◌}
 use Rattle.std.specs.Prelude.{Ok}
-use Rattle.gv_load.specs.Ahead.{reached_after, IsIndexed, KeepsDirs, steps_of}
-use Rattle.gv_load.specs.Causes.{Knows}
+use Rattle.gv_load.specs.Ahead.{reached_after, IsIndexed, KeepsDirs}
+use Rattle.gv_load.specs.Directories.{steps_of, dir_at}
+use Rattle.gv_load.specs.Causes.{Knows, IsTold, look_in, around}
 use Rattle.gv_load.specs.Closed.{IsClosed, IsClosedBut, paths_left}
-use Rattle.gv_load.specs.Directories.{dir_at}
-use Rattle.gv_load.specs.Known.{Seen}
-use Rattle.gv_load.specs.Look.{IsTold, look_in, around}
-use Rattle.gv_load.specs.Reach.{reach_below}
+use Rattle.gv_load.specs.Reader.{Seen}
+use Rattle.gv_load.specs.Reaching.{reach_below}
 use Rattle.gv_load.specs.Reading.{passed}
 use Rattle.gv_load.proofs.reaching.read_from.Given as goal
 

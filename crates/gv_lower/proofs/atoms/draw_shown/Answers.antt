@@ -3,8 +3,8 @@ use Rattle.gv_facts.specs.States.{state}
 use Rattle.gv_lower.specs.Asks.{asks_plan}
 use Rattle.gv_lower.specs.Drawn.{Drew}
 use Rattle.gv_lower.proofs.Shown.{drew_none, drew_some}
-use Rattle.gv_visible.specs.Shown.{shown_at}
-use Rattle.gv_visible.specs.Told.{level_of, pkgs_of, profile_of}
+use Rattle.gv_visible.specs.VisiblePkgs.{shown_at}
+use Rattle.gv_visible.specs.Candidates.{level_of, pkgs_of, profile_of}
 use Rattle.gv_lower.proofs.atoms.draw_shown.Goals as goal
 
 pub returns-in-None : goal.returns-in-None

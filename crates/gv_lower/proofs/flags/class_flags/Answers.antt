@@ -1,7 +1,7 @@
 use Rattle.std.proofs.Common.{◌++◌}
 use Rattle.gv_expr.specs.Dep.{deps}
-use Rattle.gv_expr.specs.Mentioned.{dep_mentions, req_mentions}
-use Rattle.gv_expr.specs.Req.{reqs}
+use Rattle.gv_expr.specs.Mentions.{dep_mentions, req_mentions}
+use Rattle.gv_expr.specs.Required.{reqs}
 use Rattle.gv_facts.specs.States.{state}
 use Rattle.gv_entry.specs.Allowed.{is_free}
 use Rattle.gv_lower.proofs.MentionedFlags.{filtered_ascends}

@@ -1,7 +1,7 @@
 use Rattle.std.proofs.Common.{ap, ◌∙◌}
 use Rattle.std.specs.Prelude.{filter}
-use Rattle.gv_expr.specs.Mentioned.{req_mentions}
-use Rattle.gv_expr.specs.Req.{reqs}
+use Rattle.gv_expr.specs.Mentions.{req_mentions}
+use Rattle.gv_expr.specs.Required.{reqs}
 use Rattle.gv_facts.specs.States.{state}
 use Rattle.gv_entry.specs.Allowed.{is_free}
 use Rattle.gv_lower.proofs.MentionedFlags.{filtered_ascends}

@@ -1,6 +1,6 @@
 use Rattle.std.proofs.Common.{◌∙◌, sym}
 use Rattle.gv_expr.specs.Dep.{deps}
-use Rattle.gv_expr.specs.Mentioned.{dep_mentions, wanted_atoms}
+use Rattle.gv_expr.specs.Mentions.{dep_mentions, wanted_atoms}
 use Rattle.gv_lower.proofs.KeysMade.{class_made, flags_are_known, on_ok, sites_are_known}
 use Rattle.gv_lower.proofs.keys.add_class_key.Goals as goal
 

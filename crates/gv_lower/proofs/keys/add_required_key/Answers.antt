@@ -1,5 +1,5 @@
-use Rattle.gv_expr.specs.Mentioned.{req_mentions}
-use Rattle.gv_expr.specs.Req.{reqs}
+use Rattle.gv_expr.specs.Mentions.{req_mentions}
+use Rattle.gv_expr.specs.Required.{reqs}
 use Rattle.gv_lower.proofs.KeysMade.{flags_are_known, on_ok, required_made}
 use Rattle.gv_lower.proofs.keys.add_required_key.Goals as goal
 

@@ -2,15 +2,15 @@ use Rattle.std.proofs.Common.{◌++◌, subst, ap, ◌∙◌}
 use Rattle.std.specs.Prelude.{filter}
 use Rattle.gv_base.specs.Order.{in_order}
 use Rattle.gv_expr.specs.Dep.{deps}
-use Rattle.gv_expr.specs.Mentioned.{dep_mentions, req_mentions}
-use Rattle.gv_expr.specs.Req.{reqs}
+use Rattle.gv_expr.specs.Mentions.{dep_mentions, req_mentions}
+use Rattle.gv_expr.specs.Required.{reqs}
 use Rattle.gv_facts.specs.States.{state}
 use Rattle.gv_entry.specs.Allowed.{is_free}
 use Rattle.gv_entry.specs.Weight.{weight}
 use Rattle.gv_lower.specs.Around.{parent_of}
 use Rattle.gv_lower.specs.Lowered.{IsQuery, Lowered}
 use Rattle.gv_lower.specs.QueryGates.{failing_gates, failing_items}
-use Rattle.gv_visible.specs.Told.{profile_of}
+use Rattle.gv_visible.specs.Candidates.{profile_of}
 use Rattle.gv_lower.proofs.lowering.lower_class.Goals as goal
 
 pub returns-in-Ok : goal.returns-in-Ok

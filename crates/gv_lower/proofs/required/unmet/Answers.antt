@@ -1,5 +1,5 @@
 use Rattle.std.proofs.Common.{[], ◌∷◌, ◌++◌, ap, ◌∙◌}
-use Rattle.gv_expr.specs.Req.{reqs}
+use Rattle.gv_expr.specs.Required.{reqs}
 use Rattle.gv_logic.specs.Literals.{opposite}
 use Rattle.gv_lower.specs.ParentFlags.{base_at}
 use Rattle.gv_lower.specs.TreeGates.{req_unmet}

@@ -1,7 +1,7 @@
 use Rattle.std.proofs.Common.{◌≡◌, ◌++◌, drop, map}
 use Rattle.gv_expr.specs.Dep.{deps}
 use Rattle.gv_expr.specs.DepView.{view_of}
-use Rattle.gv_expr.specs.Mentioned.{wanted_atoms}
+use Rattle.gv_expr.specs.Mentions.{wanted_atoms}
 use Rattle.gv_lower.specs.Sites.{site_of}
 use Rattle.gv_lower.proofs.sites.+atoms.Given as goal
 

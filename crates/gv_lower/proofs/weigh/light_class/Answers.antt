@@ -1,7 +1,7 @@
 use Rattle.std.proofs.Common.{◌≡◌, ◌+◌, length, subst, arith}
 use Rattle.gv_expr.specs.Dep.{deps}
-use Rattle.gv_expr.specs.Req.{reqs}
-use Rattle.gv_expr.specs.ReqGrammar.{req_tokens}
+use Rattle.gv_expr.specs.Required.{reqs}
+use Rattle.gv_expr.specs.RequiredGrammar.{req_tokens}
 use Rattle.gv_entry.specs.Weight.{weight}
 use Rattle.gv_lower.specs.Around.{parent_of}
 use Rattle.gv_lower.specs.Lowered.{LightWeight}

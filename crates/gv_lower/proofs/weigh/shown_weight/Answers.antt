@@ -5,8 +5,8 @@ use Rattle.gv_facts.specs.declared.pkg.Pkg.{Pkg}
 use Rattle.gv_lower.specs.Weights.{capped}
 use Rattle.gv_lower.proofs.Walk.{next_found, nothing_left}
 use Rattle.gv_lower.proofs.Weighing.{SumsOn, sums_last, sums_next}
-use Rattle.gv_visible.specs.Shown.{shows}
-use Rattle.gv_visible.specs.Told.{level_of, pkgs_of, profile_of}
+use Rattle.gv_visible.specs.VisiblePkgs.{shows}
+use Rattle.gv_visible.specs.Candidates.{level_of, pkgs_of, profile_of}
 use Rattle.gv_lower.proofs.weigh.shown_weight.Goals as goal
 
 pub loop-n-smaller : goal.loop-n-smaller

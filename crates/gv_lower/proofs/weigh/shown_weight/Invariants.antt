@@ -2,8 +2,8 @@ use Rattle.std.proofs.Common.{◌+◌, ◌-◌, drop, filter, length}
 use Rattle.std.specs.Prelude.{sum_by}
 use Rattle.gv_facts.specs.declared.pkg.Pkg.{Pkg}
 use Rattle.gv_lower.proofs.Weighing.{SumsOn}
-use Rattle.gv_visible.specs.Shown.{shows}
-use Rattle.gv_visible.specs.Told.{level_of, pkgs_of, profile_of}
+use Rattle.gv_visible.specs.VisiblePkgs.{shows}
+use Rattle.gv_visible.specs.Candidates.{level_of, pkgs_of, profile_of}
 use Rattle.gv_lower.proofs.weigh.shown_weight.Given as goal
 
 abbrev pub invariant-loop-n : goal.invariant-loop-n

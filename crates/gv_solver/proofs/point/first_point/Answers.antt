@@ -1,8 +1,8 @@
 use Rattle.std.proofs.Common.{◌≡◌, ◌-◌, ◌*◌, ◌<◌, ◌^◌, false, subst, get_or, ◌∙◌, length, sym, ap, arith}
 use Rattle.std.specs.Prelude.{replicate}
 use Rattle.std.proofs.lemmas.List.{length-map, length-replicate}
-use Rattle.gv_solver.specs.Counts.{IsCounted, at_level}
-use Rattle.gv_solver.specs.Points.{IsWay}
+use Rattle.gv_solver.specs.LevelCounts.{IsCounted, at_level}
+use Rattle.gv_solver.specs.Point.{IsWay}
 use Rattle.gv_solver.proofs.Counts.{few_entries, count_starts, count_ends}
 use Rattle.gv_solver.proofs.Points.{way_starts, way_ends, at_zero}
 use Rattle.gv_solver.proofs.point.first_point.Goals as goal

@@ -1,6 +1,6 @@
 use Rattle.std.proofs.Common.{◌≤◌, length}
-use Rattle.gv_solver.specs.Counts.{IsCounted}
-use Rattle.gv_solver.specs.Points.{IsWay}
+use Rattle.gv_solver.specs.LevelCounts.{IsCounted}
+use Rattle.gv_solver.specs.Point.{IsWay}
 use Rattle.gv_solver.proofs.point.first_point.Given as goal
 
 abbrev pub invariant-loop-left : goal.invariant-loop-left

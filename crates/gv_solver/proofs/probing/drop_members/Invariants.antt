@@ -1,6 +1,7 @@
 use Rattle.std.proofs.Common.{◌-◌, length, ◌<◌, ◌≤◌, ◌^◌, ℕ}
 use Rattle.std.specs.List.{AllByRecursion, remove}
-use Rattle.gv_logic.specs.Kept.{Clashes, IsOpen, IsRising}
+use Rattle.gv_logic.specs.Kept.{IsOpen, IsRising}
+use Rattle.gv_solver.specs.Clash.{Clashes}
 use Rattle.gv_logic.specs.Partial.{Has}
 use Rattle.gv_trail.specs.Derived.{IsTrail}
 use Rattle.gv_solver.proofs.probing.drop_members.Given as goal

@@ -1,5 +1,5 @@
 use Rattle.std.proofs.Common.{◌≡◌, drop}
-use Rattle.gv_solver.specs.Rests.{marked_against}
+use Rattle.gv_solver.specs.Resting.{marked_against}
 use Rattle.gv_solver.proofs.resting.mark_against.Given as goal
 
 abbrev pub invariant-loop-lit : goal.invariant-loop-lit

@@ -1,5 +1,5 @@
 use Rattle.std.proofs.Common.{◌≡◌, ◌≤◌, drop, length}
-use Rattle.gv_solver.specs.Rests.{needed_by, reasons}
+use Rattle.gv_solver.specs.Resting.{needed_by, reasons}
 use Rattle.gv_solver.proofs.resting.mark_needed.Given as goal
 
 abbrev pub invariant-loop-left : goal.invariant-loop-left

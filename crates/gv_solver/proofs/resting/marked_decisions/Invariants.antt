@@ -1,6 +1,6 @@
 use Rattle.std.proofs.Common.{◌≡◌, ◌++◌, drop}
 use Rattle.gv_trail.specs.Entries.{lits_of}
-use Rattle.gv_solver.specs.Rests.{rests_by, reasons}
+use Rattle.gv_solver.specs.Resting.{rests_by, reasons}
 use Rattle.gv_solver.proofs.resting.marked_decisions.Given as goal
 
 abbrev pub invariant-loop-lit : goal.invariant-loop-lit

@@ -1,7 +1,7 @@
 use Rattle.std.proofs.Common.{◌≡◌, ◌++◌, drop}
 use Rattle.gv_trail.specs.Entries.{lits_of}
 use Rattle.gv_solver.specs.Replay.{replay_by}
-use Rattle.gv_solver.specs.Rests.{reasons}
+use Rattle.gv_solver.specs.Resting.{reasons}
 use Rattle.gv_solver.proofs.steps.replayed.Given as goal
 
 abbrev pub invariant-loop-lit : goal.invariant-loop-lit

@@ -1,7 +1,7 @@
 use Rattle.std.proofs.Common.{◌∙◌, ap}
 use Rattle.gv_trail.specs.Entries.{lits_of}
 use Rattle.gv_solver.specs.Replay.{replay_by}
-use Rattle.gv_solver.specs.Rests.{reasons}
+use Rattle.gv_solver.specs.Resting.{reasons}
 use Rattle.gv_solver.proofs.Starts.{clash_follows}
 use Rattle.gv_solver.proofs.steps.step_of.Goals as goal
 

@@ -1,5 +1,5 @@
 use Rattle.std.proofs.Common.{◌≡◌, ◌-◌, ◌≤◌, ◌<◌, ◌/◌, refl, get_or}
-use Rattle.gv_trail.specs.Causes.{cause_at}
+use Rattle.gv_trail.specs.Cause.{cause_at}
 use Rattle.gv_trail.proofs.Back.{left_all, left_less, left_end, read_last}
 use Rattle.gv_trail.proofs.cause.take_back.Goals as goal
 

@@ -1,5 +1,5 @@
 use Rattle.std.specs.Prelude.{IfSome}
-use Rattle.gv_trail.specs.Looks.{IsOther}
+use Rattle.gv_trail.specs.Look.{IsOther}
 use Rattle.gv_trail.proofs.look.find_latest.Given as goal
 
 abbrev pub invariant-loop-lit : goal.invariant-loop-lit

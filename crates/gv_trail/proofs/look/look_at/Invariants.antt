@@ -1,5 +1,5 @@
 use Rattle.std.proofs.Common.{◌≡◌, None, drop}
-use Rattle.gv_trail.specs.Looks.{look_after}
+use Rattle.gv_trail.specs.Look.{look_after}
 use Rattle.gv_trail.proofs.look.look_at.Given as goal
 
 abbrev pub invariant-loop-lit : goal.invariant-loop-lit

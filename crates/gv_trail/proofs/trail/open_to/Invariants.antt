@@ -1,6 +1,6 @@
 use Rattle.std.proofs.Common.{◌≡◌, ◌+◌, ℕ, drop}
 use Rattle.gv_logic.specs.Literals.{opposite}
-use Rattle.gv_trail.specs.Looks.{open_to}
+use Rattle.gv_trail.specs.Look.{open_to}
 use Rattle.gv_trail.proofs.trail.open_to.Given as goal
 
 abbrev pub invariant-loop-at : goal.invariant-loop-at

@@ -1,5 +1,5 @@
 use Rattle.std.proofs.Common.{sym, subst, ◌∙◌}
-use Rattle.gv_verify.specs.Differs.{DifferAt}
+use Rattle.gv_verify.specs.Differing.{DifferAt}
 use Rattle.gv_verify.proofs.VerifyLemmas.{accepted, other_text}
 use Rattle.gv_verify.proofs.verifying.verify.Goals as goal
 

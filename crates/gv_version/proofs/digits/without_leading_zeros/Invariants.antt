@@ -1,6 +1,6 @@
 use Rattle.std.proofs.Common.{◌≡◌, length}
 use Rattle.gv_version.specs.Bytes.{behind}
-use Rattle.gv_version.specs.VersionOrder.{is_zero}
+use Rattle.gv_version.specs.Order.{is_zero}
 use Rattle.gv_version.proofs.digits.without_leading_zeros.Given as goal
 
 abbrev pub invariant-loop-rest : goal.invariant-loop-rest

@@ -1,5 +1,5 @@
 use Rattle.std.proofs.Common.{◌≡◌, ◌≤◌, length, take}
-use Rattle.gv_version.specs.VersionOrder.{stripped}
+use Rattle.gv_version.specs.Order.{stripped}
 use Rattle.gv_version.proofs.digits.without_trailing_zeros.Given as goal
 
 abbrev pub invariant-loop-end : goal.invariant-loop-end

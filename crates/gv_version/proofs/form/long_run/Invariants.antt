@@ -1,5 +1,5 @@
 use Rattle.std.proofs.Common.{◌≡◌, ◌-◌, drop, length}
-use Rattle.gv_version.specs.VersionForm.{long_run, long_run_from}
+use Rattle.gv_version.specs.Form.{long_run, long_run_from}
 use Rattle.gv_version.proofs.form.long_run.Given as goal
 
 abbrev pub invariant-loop-at : goal.invariant-loop-at

@@ -1,6 +1,6 @@
 use Rattle.std.proofs.Common.{◌≡◌, ◌≤◌, take}
 use Rattle.gv_version.specs.FormReading.{run}
-use Rattle.gv_version.specs.VersionForm.{longest_form_within}
+use Rattle.gv_version.specs.Form.{longest_form_within}
 use Rattle.gv_version.specs.declared.form.State.TheVariants.{Start}
 use Rattle.gv_version.proofs.form.longest_form.Given as goal
 

@@ -1,6 +1,6 @@
 use Rattle.std.proofs.Common.{◌≡◌, length}
 use Rattle.gv_version.specs.PieceReading.{pieces_in}
-use Rattle.gv_version.specs.VersionPieces.{is_front}
+use Rattle.gv_version.specs.Pieces.{is_front}
 use Rattle.gv_version.proofs.order.begins_texts.Given as goal
 
 abbrev pub invariant-pieces : goal.invariant-pieces

@@ -1,5 +1,5 @@
 use Rattle.std.proofs.Common.{◌≡◌, ◌++◌, drop}
-use Rattle.gv_visible.specs.Shown.{are_visible}
+use Rattle.gv_visible.specs.VisiblePkgs.{are_visible}
 use Rattle.gv_visible.proofs.visible_pkgs.shown.Given as goal
 
 abbrev pub invariant-loop-pkg : goal.invariant-loop-pkg

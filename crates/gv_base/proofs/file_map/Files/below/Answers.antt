@@ -3,7 +3,8 @@ use Rattle.std.specs.Prelude.{filter}
 use Rattle.std.specs.Option.{is_some}
 use Rattle.gv_base.specs.ByteMap.{seen_entry}
 use Rattle.gv_base.specs.FileMap.{FileMap}
-use Rattle.gv_base.specs.Listing.{below, files_below}
+use Rattle.gv_base.specs.Listing.{below}
+use Rattle.gv_base.specs.PrivateWords.{files_below}
 use Rattle.gv_base.proofs.ByteMaps.{entries-map_of}
 use Rattle.gv_base.proofs.Ranges.{between_seen, forward}
 use Rattle.gv_base.proofs.file_map.Files.below.Goals as goal

@@ -1,6 +1,6 @@
 use Rattle.std.proofs.Common.{◌++◌, ap, sym, ◌∙◌}
 use Rattle.std.specs.List.{join_with_byte}
-use Rattle.gv_base.specs.Words.{each_behind}
+use Rattle.gv_base.specs.PrivateWords.{each_behind}
 use Rattle.gv_base.proofs.PieceLemmas.{join_first}
 use Rattle.gv_base.proofs.texts.Texts.joined.Goals as goal
 

@@ -1,6 +1,6 @@
 use Rattle.std.proofs.Common.{nat_lt, sym, subst, ap, ◌∙◌, filter}
 use Rattle.std.specs.List.Sorted.{IsPartitionedBy}
-use Rattle.gv_cert.specs.Indexes.{is_from}
+use Rattle.gv_cert.specs.Index.{is_from}
 use Rattle.gv_cert.proofs.Found.{below_first, found_in, found_none, found_some}
 use Rattle.gv_cert.proofs.known.Known.find.Goals as goal
 

@@ -1,6 +1,6 @@
 use Rattle.std.proofs.Common.{◌≡◌, [], ◌∷◌, ◌++◌, ap, length, length-append, sym, ◌∙◌, subst, arith}
-use Rattle.gv_cert.specs.Indexes.{numbers_at, numbers_of}
-use Rattle.gv_cert.specs.Records.{KnownRecord}
+use Rattle.gv_cert.specs.Index.{numbers_at, numbers_of}
+use Rattle.gv_cert.specs.Known.{KnownRecord}
 use Rattle.gv_cert.proofs.Entries.{numbers_more}
 use Rattle.gv_cert.proofs.known.Known.take.Goals as goal
 

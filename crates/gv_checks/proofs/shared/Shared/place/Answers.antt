@@ -1,5 +1,5 @@
 use Rattle.std.proofs.Common.{◌≡◌, rules}
-use Rattle.gv_checks.specs.Judged.{case_of}
+use Rattle.gv_checks.specs.Context.{case_of}
 use Rattle.gv_checks.specs.Queries.{query_of}
 use Rattle.gv_checks.specs.Shared.{key_of}
 use Rattle.gv_checks.proofs.SharedLemmas.{found_at}

@@ -1,5 +1,5 @@
 use Rattle.std.proofs.Common.{subst}
-use Rattle.gv_cert.specs.Records.{HasQuery}
+use Rattle.gv_cert.specs.Known.{HasQuery}
 use Rattle.gv_checks.proofs.CertLemmas.{near_place}
 use Rattle.gv_checks.proofs.used.Used.place_near.Goals as goal
 

@@ -1,6 +1,6 @@
 use Rattle.std.proofs.Common.{ap, sym, ◌∙◌}
 use Rattle.std.specs.FinMap.{get}
-use Rattle.gv_load.specs.Known.{Seen}
+use Rattle.gv_load.specs.Reader.{Seen}
 use Rattle.gv_load.proofs.reader.Reader.get.Goals as goal
 
 pub returns-in-Some : goal.returns-in-Some

@@ -2,7 +2,7 @@ use Rattle.std.proofs.Common.{List, ℕ, ap, ◌∙◌}
 use Rattle.std.specs.FinMap.{insert}
 use Rattle.gv_base.specs.ByteMap.{ByteMap, map_of}
 use Rattle.gv_base.specs.declared.tree.Found.{Found}
-use Rattle.gv_load.specs.Known.{Seen}
+use Rattle.gv_load.specs.Reader.{Seen}
 use Rattle.gv_load.proofs.reader.Reader.put.Goals as goal
 
 pub returns : goal.returns

@@ -1,7 +1,7 @@
 use Rattle.std.proofs.Common.{◌≡◌, ◌++◌, drop}
-use Rattle.gv_expr.specs.Req.{reqs}
-use Rattle.gv_expr.specs.ReqView.{view_of}
-use Rattle.gv_expr.specs.Mentioned.{req_mentions}
+use Rattle.gv_expr.specs.Required.{reqs}
+use Rattle.gv_expr.specs.RequiredView.{view_of}
+use Rattle.gv_expr.specs.Mentions.{req_mentions}
 use Rattle.gv_lower.proofs.mentions.Mentions.+uses.Given as goal
 
 abbrev pub invariant-add_required-loop-tree : goal.invariant-add_required-loop-tree

@@ -1,7 +1,7 @@
 use Rattle.std.proofs.Common.{map, ap, ◌∙◌}
 use Rattle.std.specs.FinMap.{empty}
 use Rattle.gv_base.specs.ByteMap.{put_each, seen_entry}
-use Rattle.gv_profile.specs.DirMap.{DirMap}
+use Rattle.gv_profile.specs.Dirs.{DirMap}
 use Rattle.gv_profile.proofs.dirs.Dirs.copy.Goals as goal
 
 pub loop-dir-init : goal.loop-dir-init

@@ -1,7 +1,7 @@
 use Rattle.std.proofs.Common.{◌≡◌, ◌++◌, drop, true}
 use Rattle.gv_report.specs.Emitted.{emitted}
 use Rattle.gv_report.specs.Printable.{may_write}
-use Rattle.gv_report.specs.Told.{options_of}
+use Rattle.gv_report.specs.Emitter.{options_of}
 use Rattle.gv_report.proofs.emitter.Emitter.emit.Given as goal
 
 abbrev pub invariant-loop-report : goal.invariant-loop-report

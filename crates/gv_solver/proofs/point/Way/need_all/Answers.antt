@@ -1,6 +1,6 @@
 use Rattle.std.proofs.Common.{◌≡◌, ap, get_or, subst, ◌∙◌}
 use Rattle.gv_logic.specs.Literals.{opposite}
-use Rattle.gv_solver.specs.Points.{Needs}
+use Rattle.gv_solver.specs.Point.{Needs}
 use Rattle.gv_trail.specs.Entries.{assignment}
 use Rattle.gv_solver.proofs.Counts.{counts_next}
 use Rattle.gv_solver.proofs.Points.{needs_next, at_zero}

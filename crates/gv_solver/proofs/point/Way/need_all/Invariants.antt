@@ -1,6 +1,6 @@
 use Rattle.std.proofs.Common.{drop}
-use Rattle.gv_solver.specs.Counts.{Counts}
-use Rattle.gv_solver.specs.Points.{NeedsRest}
+use Rattle.gv_solver.specs.LevelCounts.{Counts}
+use Rattle.gv_solver.specs.Point.{NeedsRest}
 use Rattle.gv_trail.specs.Entries.{assignment}
 use Rattle.gv_solver.proofs.point.Way.need_all.Given as goal
 

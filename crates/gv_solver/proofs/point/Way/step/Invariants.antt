@@ -1,5 +1,5 @@
 use Rattle.std.proofs.Common.{◌≡◌, ◌≤◌, ◌++◌, [], ◌∷◌, take, length}
-use Rattle.gv_solver.specs.Points.{hints_back}
+use Rattle.gv_solver.specs.Point.{hints_back}
 use Rattle.gv_solver.proofs.point.Way.step.Given as goal
 
 abbrev pub invariant-loop-at : goal.invariant-loop-at

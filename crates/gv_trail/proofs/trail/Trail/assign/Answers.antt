@@ -3,7 +3,7 @@ use Rattle.std.proofs.Math.ListN.{length-set}
 use Rattle.std.proofs.lemmas.List.{length-map}
 use Rattle.gv_logic.specs.Literals.{opposite}
 use Rattle.gv_logic.specs.Partial.{is_true}
-use Rattle.gv_trail.specs.Causes.{entry_of, entries_of}
+use Rattle.gv_trail.specs.Cause.{entry_of, entries_of}
 use Rattle.gv_trail.specs.Entries.{State, assignment, level_after}
 use Rattle.gv_trail.specs.declared.cause.Cause.{Cause}
 use Rattle.gv_trail.proofs.Marks.{long, fresh_room}

@@ -1,5 +1,5 @@
 use Rattle.std.proofs.Common.{◌*◌, length, arith}
-use Rattle.gv_trail.specs.Causes.{entries_of}
+use Rattle.gv_trail.specs.Cause.{entries_of}
 use Rattle.gv_trail.proofs.Marks.{fresh_few}
 use Rattle.gv_trail.proofs.Levels.{levels-most}
 use Rattle.gv_trail.proofs.trail.Trail.next_level.Goals as goal

@@ -1,6 +1,6 @@
 use Rattle.std.proofs.Common.{◌∙◌, sym, ap}
 use Rattle.gv_trail.specs.Entries.{State, lits_of}
-use Rattle.gv_trail.specs.Looks.{open_to}
+use Rattle.gv_trail.specs.Look.{open_to}
 use Rattle.gv_trail.proofs.Entries.{lits_are}
 use Rattle.gv_trail.proofs.trail.Trail.open_to.Goals as goal
 

@@ -1,7 +1,7 @@
 use Rattle.std.proofs.Common.{◌≡◌, drop}
 use Rattle.std.specs.List.{find}
-use Rattle.gv_visible.specs.Shown.{shows_at}
-use Rattle.gv_visible.specs.Told.{level_of, pkgs_of, profile_of}
+use Rattle.gv_visible.specs.PrivateWords.{shows_at}
+use Rattle.gv_visible.specs.Candidates.{level_of, pkgs_of, profile_of}
 use Rattle.gv_visible.proofs.candidates.Candidates.first_shown.Given as goal
 
 abbrev pub invariant-loop-place : goal.invariant-loop-place

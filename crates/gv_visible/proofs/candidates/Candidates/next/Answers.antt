@@ -4,8 +4,8 @@ use Rattle.std.specs.List.{find}
 use Rattle.std.specs.Option.{option_map_or}
 use Rattle.std.specs.List.Sorted.{IsPartitionedBy}
 use Rattle.gv_facts.specs.Places.{is_pkg_of, places_of}
-use Rattle.gv_visible.specs.Shown.{is_from, shows}
-use Rattle.gv_visible.specs.Told.{level_of, pkgs_of, profile_of}
+use Rattle.gv_visible.specs.VisiblePkgs.{is_from, shows}
+use Rattle.gv_visible.specs.Candidates.{level_of, pkgs_of, profile_of}
 use Rattle.gv_visible.proofs.NextPlaces.{below_first, found, rest}
 use Rattle.gv_visible.proofs.candidates.Candidates.next.Goals as goal
 

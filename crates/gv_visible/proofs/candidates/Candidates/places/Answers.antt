@@ -2,8 +2,8 @@ use Rattle.std.proofs.Common.{◌≡◌, ap, map, ◌∙◌}
 use Rattle.std.specs.Prelude.{slice_get}
 use Rattle.std.specs.List.{filter_map}
 use Rattle.gv_facts.specs.Places.{is_pkg_of, places_of}
-use Rattle.gv_visible.specs.Shown.{shown_at}
-use Rattle.gv_visible.specs.Told.{level_of, pkgs_of, profile_of}
+use Rattle.gv_visible.specs.VisiblePkgs.{shown_at}
+use Rattle.gv_visible.specs.Candidates.{level_of, pkgs_of, profile_of}
 use Rattle.gv_visible.proofs.Placed.{items_at, shown_there}
 use Rattle.gv_visible.proofs.candidates.Candidates.places.Goals as goal
 

@@ -1,0 +1,57 @@
+-- What was read so far, part by part: words of private contracts.
+use Rattle.std.specs.Prelude.{ℕ, List, ◌++◌, map, flat_map, filter_map}
+use Rattle.gv_profile.specs.Desc.{desc_read}
+use Rattle.gv_profile.specs.BadLines.{mask_notes}
+use Rattle.gv_profile.specs.declared.desc.DescLine.{DescLine}
+use Rattle.gv_profile.specs.declared.files.NamedFile.{NamedFile}
+use Rattle.gv_report.specs.declared.keyword.Keyword.TheVariants as keywords
+use Rattle.gv_report.specs.declared.report.Report.{Report}
+use Rattle.gv_load.specs.Categories.{categories_in}
+use Rattle.gv_load.specs.Directories.{text_at, dir_at, files_at}
+use Rattle.gv_load.specs.Look.{Look}
+use Rattle.gv_load.specs.Notes.{category_notes, notes_in, pf_notes, place_report}
+use Rattle.gv_load.specs.Order.{reached}
+use Rattle.gv_load.specs.Paths.{desc_path, categories_path, mask_path}
+use Rattle.gv_load.specs.Repository.{body_of, in_package_order, members_in, pkg_of}
+use Rattle.gv_load.specs.Stacks.{error_at, profile_at}
+use Rattle.gv_load.specs.declared.freshness.PfKept.{PfKept}
+use Rattle.gv_load.specs.declared.lists.Lists.{Lists}
+use Rattle.gv_load.specs.declared.lists.TopPaths.{TopPaths}
+use Rattle.gv_load.specs.declared.loading.Repo.{Repo}
+use Rattle.gv_load.specs.declared.line_profiles.Profiled.{Profiled}
+
+abbrev pub top_paths : TopPaths
+top_paths = record { desc = desc_path; categories = categories_path; masks = mask_path }
+
+abbrev pub lists_with : (desc categories : List ℕ) → List NamedFile → Lists
+lists_with desc categories masks = record {
+  lines = (desc_read desc).lines;
+  categories = categories_in categories;
+  masks = masks;
+  notes = (desc_read desc).notes ++ (category_notes categories ++ mask_notes masks);
+}
+
+abbrev pub lists_of : Look → Lists
+lists_of look = lists_with (text_at look desc_path) (text_at look categories_path) (files_at look mask_path)
+
+abbrev pub profiled_of : Look → List NamedFile → List DescLine → Profiled
+profiled_of look masks lines = record {
+  profiles = filter_map (profile_at (dir_at look) masks) lines;
+  errors = filter_map (error_at (dir_at look)) lines;
+  notes = notes_in (dir_at look) (reached look lines);
+}
+
+abbrev pub notes_with : Lists → Profiled → List PfKept → List Report
+notes_with lists profiled kepts =
+    map (place_report keywords.ProfileNote) lists.notes
+    ++ (map (place_report keywords.ProfileNote) profiled.notes
+    ++ (map (place_report keywords.ProfileError) profiled.errors ++ flat_map pf_notes kepts))
+
+abbrev pub repo_with : Lists → Profiled → List PfKept → Repo
+repo_with lists profiled kepts = record {
+  pkgs = map pkg_of (in_package_order (members_in kepts));
+  bodies = map body_of (in_package_order (members_in kepts));
+  profiles = profiled.profiles;
+  lines = lists.lines;
+  notes = notes_with lists profiled kepts;
+}

@@ -1,5 +1,0 @@
-use Rattle.gv_logic.proofs.WholeBytes.{circuit_same}
-use Rattle.gv_logic.proofs.law.circuit_law.Goals as goal
-
-pub returns : goal.returns
-returns c = circuit_same

@@ -1,5 +1,0 @@
-use Rattle.gv_refute.proofs.RuleByRule.{rules}
-use Rattle.gv_refute.proofs.law.rule_law.Goals as goal
-
-pub returns : goal.returns
-returns c = rules
