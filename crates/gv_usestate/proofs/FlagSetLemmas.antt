@@ -1,4 +1,4 @@
--- The flags that rules name, as they come one by one.
+-- Flags in a hash set, as they come one by one.
 use Rattle.std.proofs.Common.{◌≡◌, ℕ, ◌+◌, ◌<◌, Bool, true, false, ◌||◌, List, [], ◌∷◌, ◌++◌, length, get_or, drop, drop-cons, add-one, refl, sym, ap, ◌∙◌}
 use Rattle.std.specs.Prelude.{if◌then◌else◌}
 use Rattle.std.specs.Borrow.{Bor}
@@ -7,14 +7,12 @@ use Rattle.std.specs.List.{list_any}
 use Rattle.std.specs.Str.{bytes_eq}
 use Rattle.std.proofs.lemmas.Bool.{false≢true}
 use Rattle.indexmap.specs.IndexSet.{insert_key}
+use Rattle.gv_base.specs.ByteMap.{Bytes}
+use Rattle.gv_base.specs.Order.{has_text}
 use Rattle.gv_facts.specs.Places.{names_flag}
 use Rattle.gv_facts.specs.declared.rules.Rule.{Rule}
-use Rattle.gv_usestate.specs.FlagPlaces.{is_key}
-use Rattle.gv_usestate.specs.FlagSets.{has_flag}
+use Rattle.gv_usestate.specs.FlagSets.{has_flag, has_owned}
 use Rattle.gv_usestate.proofs.FlagMap.{flipped, key_eq}
-
-abbrev Keys : Type 0
-Keys = List (Bor (List ℕ))
 
 any_last : {A : Type 0} (test : A → Bool) (xs : List A) (x : A) → list_any test (xs ++ x ∷ []) ≡ (list_any test xs || test x)
 any_last test [] x = by (test x)
@@ -28,33 +26,6 @@ any_last test (y ∷ ys) x = by (test y) (any_last test ys x)
     by true h = refl
     by false h = h
 
--- where a key is there already, what it stands for is there
-module _ (flag : List ℕ) (key : Bor (List ℕ)) where
-  already : (ks : Keys) → list_any (key_eq key) ks ≡ true → is_key flag key ≡ true → has_flag ks flag ≡ true
-  already [] h i = absurd (false≢true h)
-  already (k ∷ ks) h i = by (key_eq key k) refl h (already ks)
-    where
-      by : (b : Bool) → key_eq key k ≡ b → (b || list_any (key_eq key) ks) ≡ true → (list_any (key_eq key) ks ≡ true → is_key flag key ≡ true → has_flag ks flag ≡ true) → (is_key flag k || has_flag ks flag) ≡ true
-      by true e j later = rw (ap (bytes_eq flag) (sym (same_text key.now k.now (sym e))) ∙ i) refl
-      by false e j later = or_true (is_key flag k) (later j i)
-        where
-          or_true : (b : Bool) {c : Bool} → c ≡ true → (b || c) ≡ true
-          or_true true e = refl
-          or_true false e = e
-
-  one_more_key : (ks : Keys) → has_flag (insert_key key_eq ks key) flag ≡ (has_flag ks flag || is_key flag key)
-  one_more_key ks = by (list_any (key_eq key) ks) refl (is_key flag key) refl (already ks)
-    where
-      by : (b : Bool) → list_any (key_eq key) ks ≡ b → (c : Bool) → is_key flag key ≡ c → (list_any (key_eq key) ks ≡ true → is_key flag key ≡ true → has_flag ks flag ≡ true)
-          → has_flag (if b then ks else ks ++ key ∷ []) flag ≡ (has_flag ks flag || is_key flag key)
-      by true e true f there = rw (f, there e f) refl
-      by true e false f there = rw f (sym (or_false (has_flag ks flag)))
-        where
-          or_false : (b : Bool) → (b || false) ≡ b
-          or_false true = refl
-          or_false false = refl
-      by false e c f there = any_last (is_key flag) ks key
-
 drop_here : {A : Type 0} (xs : List A) (x : A) (i : ℕ) → i < length xs → x ≡ get_or xs i x → drop i xs ≡ x ∷ drop (i + 1) xs
 drop_here xs x i lt here = rw add-one (drop-cons xs i x lt) ∙ ap (λ y. y ∷ drop (i + 1) xs) (sym here)
 
@@ -62,11 +33,61 @@ or_assoc : (a b c : Bool) → ((a || b) || c) ≡ (a || (b || c))
 or_assoc true b c = refl
 or_assoc false b c = refl
 
+-- Keys of any type, by their bytes.
+module _ {K : Type 0} (bytes : K → List ℕ) where
+  abbrev has : List K → (flag : List ℕ) → Bool
+  has keys flag = list_any (λ key. bytes_eq flag (bytes key)) keys
+
+  abbrev same_key : K → K → Bool
+  same_key a b = bytes_eq (bytes a) (bytes b)
+
+  -- where a key is there already, what it stands for is there
+  module _ (flag : List ℕ) (key : K) where
+    already : (ks : List K) → list_any (same_key key) ks ≡ true → bytes_eq flag (bytes key) ≡ true → has ks flag ≡ true
+    already [] h i = absurd (false≢true h)
+    already (k ∷ ks) h i = by (same_key key k) refl h (already ks)
+      where
+        by : (b : Bool) → same_key key k ≡ b → (b || list_any (same_key key) ks) ≡ true → (list_any (same_key key) ks ≡ true → bytes_eq flag (bytes key) ≡ true → has ks flag ≡ true) → (bytes_eq flag (bytes k) || has ks flag) ≡ true
+        by true e j later = rw (ap (bytes_eq flag) (sym (same_text (bytes key) (bytes k) (sym e))) ∙ i) refl
+        by false e j later = or_true (bytes_eq flag (bytes k)) (later j i)
+          where
+            or_true : (b : Bool) {c : Bool} → c ≡ true → (b || c) ≡ true
+            or_true true e = refl
+            or_true false e = e
+
+    one_more_key : (ks : List K) → has (insert_key same_key ks key) flag ≡ (has ks flag || bytes_eq flag (bytes key))
+    one_more_key ks = by (list_any (same_key key) ks) refl (bytes_eq flag (bytes key)) refl (already ks)
+      where
+        by : (b : Bool) → list_any (same_key key) ks ≡ b → (c : Bool) → bytes_eq flag (bytes key) ≡ c → (list_any (same_key key) ks ≡ true → bytes_eq flag (bytes key) ≡ true → has ks flag ≡ true)
+            → has (if b then ks else ks ++ key ∷ []) flag ≡ (has ks flag || bytes_eq flag (bytes key))
+        by true e true f there = rw (f, there e f) refl
+        by true e false f there = rw f (sym (or_false (has ks flag)))
+          where
+            or_false : (b : Bool) → (b || false) ≡ b
+            or_false true = refl
+            or_false false = refl
+        by false e c f there = any_last (λ k. bytes_eq flag (bytes k)) ks key
+
+    -- one more item of a list, whose key it is
+    one_more : {X : Type 0} (test : X → Bool) (es fs : List K) (xs : List X) (i : ℕ) (x : X) → i < length xs → x ≡ get_or xs i x → bytes_eq flag (bytes key) ≡ test x → fs ≡ insert_key same_key es key
+        → (whole : Bool) → (has es flag || list_any test (drop i xs)) ≡ whole → (has fs flag || list_any test (drop (i + 1) xs)) ≡ whole
+    one_more test es fs xs i x lt is tells more whole on =
+        ap (λ ks. has ks flag || list_any test (drop (i + 1) xs)) more
+        ∙ (ap (λ b. b || list_any test (drop (i + 1) xs)) (one_more_key es ∙ ap (λ b. has es flag || b) tells)
+        ∙ (or_assoc (has es flag) (test x) (list_any test (drop (i + 1) xs))
+        ∙ (sym (ap (λ l. has es flag || list_any test l) (drop_here xs x i lt is)) ∙ on)))
+
 -- one more rule
-pub one_more_rule : (es fs : Keys) (rules : List Rule) (i : ℕ) (r : Rule) (key : Bor (List ℕ)) → i < length rules → r ≡ get_or rules i r → key.now ≡ r.flag → fs ≡ insert_key key_eq es key
+pub one_more_rule : (es fs : List (Bor (List ℕ))) (rules : List Rule) (i : ℕ) (r : Rule) (key : Bor (List ℕ)) → i < length rules → r ≡ get_or rules i r → key.now ≡ r.flag → fs ≡ insert_key key_eq es key
     → (flag : List ℕ) (whole : Bool) → (has_flag es flag || list_any (names_flag flag) (drop i rules)) ≡ whole → (has_flag fs flag || list_any (names_flag flag) (drop (i + 1) rules)) ≡ whole
-one_more_rule es fs rules i r key lt is named more flag whole on =
-    ap (λ ks. has_flag ks flag || list_any (names_flag flag) (drop (i + 1) rules)) more
-    ∙ (ap (λ b. b || list_any (names_flag flag) (drop (i + 1) rules)) (one_more_key flag key es ∙ ap (λ b. has_flag es flag || b) (ap (bytes_eq flag) named ∙ flipped flag r.flag))
-    ∙ (or_assoc (has_flag es flag) (names_flag flag r) (list_any (names_flag flag) (drop (i + 1) rules))
-    ∙ (sym (ap (λ l. has_flag es flag || list_any (names_flag flag) l) (drop_here rules r i lt is)) ∙ on)))
+one_more_rule es fs rules i r key lt is named more flag =
+    one_more (λ (k : Bor (List ℕ)). k.now) flag key (names_flag flag) es fs rules i r lt is (ap (bytes_eq flag) named ∙ flipped flag r.flag) more
+
+abbrev owned_eq : Bytes → Bytes → Bool
+owned_eq a b = bytes_eq a.items b.items
+
+-- one more flag of a list
+pub one_more_flag : (es fs : List Bytes) (flags : List (List ℕ)) (i : ℕ) (f : List ℕ) (key : Bytes) → i < length flags → f ≡ get_or flags i f → key.items ≡ f → fs ≡ insert_key owned_eq es key
+    → (flag : List ℕ) (whole : Bool) → (has_owned es flag || has_text (drop i flags) flag) ≡ whole → (has_owned fs flag || has_text (drop (i + 1) flags) flag) ≡ whole
+one_more_flag es fs flags i f key lt is named more flag =
+    one_more (λ (k : Bytes). k.items) flag key (bytes_eq flag) es fs flags i f lt is (ap (bytes_eq flag) named) more

@@ -3,6 +3,7 @@ ghost use Rattle.std.specs.Prelude.{◌≡◌, ◌++◌, map, IfOk, OnOk};
 ghost use Rattle.std.specs.Str.{str_to_ascii_lowercase};
 ghost use Rattle.gv_base.specs.Order.{HaveSameTexts, IsAscending};
 ghost use Rattle.gv_facts.specs.Effective.{effective, expand_flags, flag_sources, prefixed, unprefixed_flags, values_of};
+ghost use Rattle.gv_usestate.specs.FlagSets.{implicit_flags};
 
 use gv_base::{NoMemory, Text, Texts};
 use gv_facts::{Pkg, Profile, ValueLists};
@@ -119,14 +120,25 @@ fn add_unprefixed(alloc: Global, flags: &mut Texts, profile: &Profile) -> Result
     Ok(())
 }
 
+/// Adds the flags that are effective in the profile for each package.
+pub(crate) fn add_implicit(
+    alloc: Global,
+    flags: &mut Texts,
+    profile: &Profile,
+) -> Result<(), NoMemory>
+    ensures { OnOk result (flags.new ≡ flags.old ++ implicit_flags profile.now) }
+{
+    add_words(alloc, flags, &profile.iuse_implicit)?;
+    add_expanded(alloc, flags, profile)?;
+    add_unprefixed(alloc, flags, profile)
+}
+
 // The sources, one behind the other.
 fn sources(alloc: Global, pkg: &Pkg, profile: &Profile) -> Result<Texts, NoMemory>
     ensures { IfOk result (λ flags. flags ≡ flag_sources pkg.now profile.now) }
 {
     let mut flags = Texts::new(alloc);
     add_words(alloc, &mut flags, &pkg.iuse)?;
-    add_words(alloc, &mut flags, &profile.iuse_implicit)?;
-    add_expanded(alloc, &mut flags, profile)?;
-    add_unprefixed(alloc, &mut flags, profile)?;
+    add_implicit(alloc, &mut flags, profile)?;
     Ok(flags)
 }

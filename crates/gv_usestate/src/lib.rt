@@ -7,7 +7,8 @@
 //! - `flags`: that list.
 //! - `restricted`: where stable restrictions apply.
 //! - `states`: the state of a flag, by the rules that name it and no others.
-//! - `profile_states`: a profile with these rules in a hash map, for many flags of many packages.
+//! - `profile_states`: a profile with these rules in a hash map and its own effective flags in a hash set, for many flags of many
+//!   packages.
 //! - `ruled`: what is known of a flag's state in every one of some profiles.
 //!
 //! A word is compared in O(bytes). `state` costs O(log n) comparisons for n names of flags in rules, O(the package's

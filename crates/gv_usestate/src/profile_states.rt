@@ -1,50 +1,60 @@
-//! A profile with its rules by flag, in a hash map.
+//! A profile with its rules by flag, in a hash map, and with the flags that it makes effective, in a hash set.
 //!
-//! `new` costs O(1) on average for each rule, besides its look-up in the list of rules. `state` takes no memory, and costs
-//! what `state` of the package, the profile, the level and the flag does, with a look-up by hash in place of comparisons of
-//! names. `state_as` is told what is known of the flag: a plain one costs O(1), and one of IUSE the look-up and the rules that
-//! name it.
-ghost use Rattle.std.specs.Prelude.{◌≡◌, false, IfOk};
+//! `new` costs O(1) on average for each rule, besides its look-up in the list of rules, and O(bytes) for each flag that the
+//! profile makes effective, which it copies. `state` takes no memory, and costs what `state` of the package, the profile, the
+//! level and the flag does, with a look-up by hash in place of the profile's sources of effective flags, and one in place of
+//! comparisons of names. `state_as` is told what is known of the flag: a plain one costs O(1), and another one look-up where
+//! the profile doesn't make it effective, two at most, and the rules that name it.
+ghost use Rattle.std.specs.Prelude.{◌≡◌, false, List, ℕ, IfOk};
 ghost use Rattle.gv_base.specs.Order.{has_text};
+ghost use Rattle.gv_facts.specs.Effective.{is_effective};
 ghost use Rattle.gv_facts.specs.States.{state};
 ghost use Rattle.gv_usestate.specs.FlagPlaces.{AreRulesOf, HasRules};
+ghost use Rattle.gv_usestate.specs.FlagSets.{AreImplicit, has_owned, implicit_flags};
 ghost use Rattle.gv_usestate.specs.Kinds.{IsKind};
 
+use crate::flags::add_implicit;
 use crate::ruled::FlagKind;
-use crate::sources::{is_effective, is_implicit};
 use crate::states::effective_state;
-use gv_base::NoMemory;
+use gv_base::{NoMemory, Texts};
 use gv_facts::{FlagState, Level, Pkg, Profile, Rules};
-use indexmap::IndexMap;
+use indexmap::{IndexMap, IndexSet};
 use std::alloc::Global;
 use std::marker::Model;
 
-/// A profile with the places of its rules that name each flag: made once for the profile, and asked for the states of the
-/// flags of every package at every level.
+/// A profile with the places of its rules that name each flag, and with the flags that it makes effective: made once for the
+/// profile, and asked for the states of the flags of every package at every level.
 #[derive(Drop)]
 pub struct ProfileStates<'a> {
     profile: &'a Profile,
     places: IndexMap<&'a [u8], &'a [u32]>,
+    implicit: IndexSet<Vec<u8>>,
 }
 
 impl<'a> Model for ProfileStates<'a> {
     ghost use Rattle.gv_facts.specs.declared.profile.Profile.{Profile};
     ghost use Rattle.gv_usestate.specs.FlagPlaces.{HasRules};
+    ghost use Rattle.gv_usestate.specs.FlagSets.{AreImplicit};
 
     ghost Value = { Profile };
 
     ghost view = { λ s. s.profile.now };
 
-    ghost invariant = { λ s. HasRules s.places.entries s.profile.now.rules };
+    ghost invariant = { λ s. (HasRules s.places.entries s.profile.now.rules) × (AreImplicit s.implicit.keys s.profile.now) };
 }
 
 impl<'a> ProfileStates<'a> {
-    /// An index of the profile's rules.
+    /// An index of the profile's rules and of the flags that it makes effective.
     pub fn new(alloc: Global, profile: &'a Profile) -> Result<ProfileStates<'a>, NoMemory>
         ensures { IfOk result (λ states. states ≡ profile.now) }
     {
         let places = by_flag(alloc, &profile.rules)?;
-        Ok(ProfileStates { profile, places })
+        let implicit = implicit_by(alloc, profile)?;
+        Ok(ProfileStates {
+            profile,
+            places,
+            implicit,
+        })
     }
 
     /// The profile whose rules are indexed.
@@ -63,15 +73,27 @@ impl<'a> ProfileStates<'a> {
         }
     }
 
+    // Whether the flag is effective for a package that doesn't have it in IUSE.
+    fn is_implicit(&self, flag: &[u8]) -> bool
+        ensures { result ≡ has_text (implicit_flags self.now) flag.now }
+    {
+        self.implicit.contains(flag)
+    }
+
+    fn is_effective(&self, pkg: &Pkg, flag: &[u8]) -> bool
+        ensures { result ≡ is_effective pkg.now self.now flag.now }
+    {
+        pkg.iuse.has(flag) || self.is_implicit(flag)
+    }
+
     /// The state of the flag, by its bytes: what `state_of` the package, the profile, the level and the flag says.
     pub fn state(&self, pkg: &Pkg, level: Level, flag: &[u8]) -> FlagState
         ensures { result ≡ state pkg.now self.now level flag.now }
     {
-        let profile = self.profile();
-        if !is_effective(pkg, profile, flag) {
+        if !self.is_effective(pkg, flag) {
             return FlagState::Absent;
         }
-        effective_state(pkg, profile, level, flag, self.at(flag))
+        effective_state(pkg, self.profile(), level, flag, self.at(flag))
     }
 
     // The state of a flag that the profile makes effective, or doesn't.
@@ -79,11 +101,10 @@ impl<'a> ProfileStates<'a> {
         requires { has_text pkg.now.iuse flag.now ≡ false }
         ensures { result ≡ state pkg.now self.now level flag.now }
     {
-        let profile = self.profile();
-        if !is_implicit(profile, flag) {
+        if !self.is_implicit(flag) {
             return FlagState::Absent;
         }
-        effective_state(pkg, profile, level, flag, self.at(flag))
+        effective_state(pkg, self.profile(), level, flag, self.at(flag))
     }
 
     /// The same of a flag of which is known how far its state rests on the profile.
@@ -110,4 +131,25 @@ fn by_flag<'a>(alloc: Global, rules: &'a Rules) -> Result<IndexMap<&'a [u8], &'a
         places.insert(flag, rules.places_of(flag))?;
     }
     Ok(places)
+}
+
+// The flags, as keys of their own.
+fn set_of(alloc: Global, flags: &Texts) -> Result<IndexSet<Vec<u8>>, NoMemory>
+    ensures { IfOk result (λ set. (flag : List ℕ) → has_owned set.keys flag ≡ has_text flags.now flag) }
+{
+    let mut set = IndexSet::new(alloc);
+    for flag in flags.items() {
+        let key = Vec::from_slice(alloc, flag.bytes())?;
+        set.insert(key)?;
+    }
+    Ok(set)
+}
+
+// The flags that the profile makes effective.
+fn implicit_by(alloc: Global, profile: &Profile) -> Result<IndexSet<Vec<u8>>, NoMemory>
+    ensures { IfOk result (λ set. AreImplicit set.keys profile.now) }
+{
+    let mut flags = Texts::new(alloc);
+    add_implicit(alloc, &mut flags, profile)?;
+    set_of(alloc, &flags)
 }

@@ -1,25 +1,26 @@
 //! Whether a flag is effective: the four sources, one after another, without memory.
-ghost use Rattle.std.specs.Prelude.{◌≡◌, ◌&&◌, ◌++◌, false, ℕ, List, map};
+ghost use Rattle.std.specs.Prelude.{◌≡◌, ◌&&◌, false, ℕ, List, map};
 ghost use Rattle.std.specs.Option.{option_map_or};
 ghost use Rattle.std.specs.Str.{bytes_eq};
 ghost use Rattle.gv_base.specs.Order.{has_text};
 ghost use Rattle.gv_facts.specs.Effective.{is_effective, expand_flags, prefixed, unprefixed_flags, values_of};
+ghost use Rattle.gv_usestate.specs.FlagSets.{implicit_flags};
 
 use gv_base::Text;
 use gv_facts::{Pkg, Profile, ValueLists};
-
-/// Whether the flag is effective in the profile for a package that doesn't have it in IUSE.
-pub(crate) fn is_implicit(profile: &Profile, flag: &[u8]) -> bool
-    ensures { result ≡ has_text (profile.now.iuse_implicit ++ (expand_flags profile.now ++ unprefixed_flags profile.now)) flag.now }
-{
-    profile.iuse_implicit.has(flag) || has_expanded(profile, flag) || has_unprefixed(profile, flag)
-}
 
 /// Whether the flag is one of the package's effective flags.
 pub fn is_effective(pkg: &Pkg, profile: &Profile, flag: &[u8]) -> bool
     ensures { result ≡ is_effective pkg.now profile.now flag.now }
 {
     pkg.iuse.has(flag) || is_implicit(profile, flag)
+}
+
+// Whether the flag is effective in the profile for a package that doesn't have it in IUSE.
+fn is_implicit(profile: &Profile, flag: &[u8]) -> bool
+    ensures { result ≡ has_text (implicit_flags profile.now) flag.now }
+{
+    profile.iuse_implicit.has(flag) || has_expanded(profile, flag) || has_unprefixed(profile, flag)
 }
 
 // Whether a variable of this name has the word among its values.
