@@ -1,6 +1,8 @@
-//! The flags that REQUIRED_USE and a class mention, borrowed from them.
+//! The flags that REQUIRED_USE and a class mention, borrowed from them. O(n) to find n mentions, O(n log n) comparisons to put
+//! them in order.
 ghost use Rattle.std.specs.Prelude.{◌≡◌, ◌++◌, [], ◌∷◌, OnOk};
 ghost use Rattle.gv_atom.specs.declared.atom.Block.TheVariants.{No};
+ghost use Rattle.gv_base.specs.Order.{in_order};
 ghost use Rattle.gv_expr.specs.Dep.{deps};
 ghost use Rattle.gv_expr.specs.DepView.{dep_of};
 ghost use Rattle.gv_expr.specs.Mentions.{dep_mentions, item_mentions, req_mentions};
@@ -9,12 +11,12 @@ ghost use Rattle.gv_expr.specs.RequiredView.{req_of};
 ghost use Rattle.gv_lower.specs.Mentions.{texts_of};
 
 use gv_atom::{Atom, Block, UseItem};
-use gv_base::{NoMemory, Text};
+use gv_base::{NoMemory, Text, in_order_law};
 use gv_expr::{DepExpr, DepTree, UseExpr, UseTree};
 use std::alloc::Global;
 use std::marker::Model;
 
-/// In the order in which they stand, with repeats.
+/// In the order in which they stand, with repeats, until they are put in order.
 #[derive(Drop)]
 pub(crate) struct Mentions<'a> {
     flags: Vec<&'a [u8]>,
@@ -42,6 +44,16 @@ impl<'a> Mentions<'a> {
         ensures { texts_of result.now ≡ self.now }
     {
         &self.flags
+    }
+
+    /// Puts them in byte order, each once.
+    pub(crate) fn put_in_order(&mut self) -> Result<(), NoMemory>
+        ensures { OnOk result (self.new ≡ in_order self.old) }
+    {
+        in_order_law();
+        self.flags.sort()?;
+        self.flags.dedup();
+        Ok(())
     }
 
     #[tactic(auto, using(crate::proofs::Gathering::one_more))]

@@ -5,12 +5,13 @@ use Rattle.gv_expr.specs.Required.{reqs}
 use Rattle.gv_facts.specs.States.{state}
 use Rattle.gv_entry.specs.Allowed.{is_free}
 use Rattle.gv_lower.proofs.MentionedFlags.{filtered_ascends}
+use Rattle.gv_lower.specs.Mentions.{texts_of}
 use Rattle.gv_lower.proofs.flags.required_flags.Goals as goal
 
 pub returns-clause-flags : goal.returns-clause-flags
-returns-clause-flags c = c.in_ok-flags.ensures ∙ ap (filter (λ flag. is_free (state c.args.pkg.now c.args.profile.now c.args.level flag))) c.in_ok-mentioned.ensures
+returns-clause-flags c = c.in_ok-flags.ensures ∙ ap (filter (λ flag. is_free (state c.args.pkg.now c.args.profile.now c.args.level flag))) (c.items.ensures ∙ c.in_ok-mentioned.ensures)
 
 pub returns-clause-ascend : goal.returns-clause-ascend
 returns-clause-ascend c =
-    filtered_ascends c.in_order_law.ensures (λ flag. is_free (state c.args.pkg.now c.args.profile.now c.args.level flag)) (req_mentions (reqs c.args.required.now)) c.in_ok-mentioned.mentioned c.in_ok-flags.flags
-    c.in_ok-mentioned.ensures c.in_ok-flags.ensures
+    filtered_ascends c.in_order_law.ensures (λ flag. is_free (state c.args.pkg.now c.args.profile.now c.args.level flag)) (req_mentions (reqs c.args.required.now)) (texts_of c.items.result.now) c.in_ok-flags.flags
+    (c.items.ensures ∙ c.in_ok-mentioned.ensures) c.in_ok-flags.ensures
