@@ -111,6 +111,18 @@ last_is : {A : Type 0} (xs : List A) (x : A) → slice_get (xs ++ x ∷ []) (len
 last_is [] x = refl
 last_is (y ∷ ys) x = last_is ys x
 
+-- one more record
+grows_more : (known : List KnownRecord) (r : KnownRecord) (b : List ℕ) (n : ℕ) → HasQuery b known n → HasQuery b (known ++ r ∷ []) n
+grows_more [] r b n has = absurd (omega (arith, has.there))
+grows_more (k ∷ ks) r b zero has = record { there = omega arith; same = has.same }
+grows_more (k ∷ ks) r b (suc n) has =
+    let rest = grows_more ks r b n (record { there = omega (arith, has.there); same = has.same }) in
+    record { there = omega (arith, rest.there); same = rest.same }
+
+last_has : (known : List KnownRecord) (r : KnownRecord) → HasQuery r.query (known ++ r ∷ []) (length known)
+last_has [] r = record { there = omega arith; same = refl }
+last_has (k ∷ ks) r = let rest = last_has ks r in record { there = omega (arith, rest.there); same = rest.same }
+
 pub long_more : {A : Type 0} (xs : List A) (x : A) → length (xs ++ x ∷ []) ≡ length xs + 1
 long_more [] x = refl
 long_more (y ∷ ys) x = let e = long_more ys x in omega (arith, e)
@@ -252,6 +264,8 @@ module _ (law : CircuitLaw) (budget : ℕ) (given : List KnownRecord) (g : Circu
         λ start gates lowered are. old_use law budget given start gates used lowered before g w are n has,
         old_found law budget given some.start some.gates used some.lowered before g w some.are n has,
         old_backed law budget given some.start some.gates used some.lowered before g w some.are n has,
+        λ query m there. there,
+        has,
       )
 
   -- the record of this number has the bytes
@@ -261,6 +275,8 @@ module _ (law : CircuitLaw) (budget : ℕ) (given : List KnownRecord) (g : Circu
         λ start gates lowered are. old_use law budget given start gates used lowered before g w are n has,
         old_found law budget given some.start some.gates used some.lowered before g w some.are n has,
         old_backed law budget given some.start some.gates used some.lowered before g w some.are n has,
+        λ query m there. there,
+        has,
       )
 
   pub new_place : (new : Used) (now : Counts) (claim : Claim) (reused : Bool) (q a : List ℕ) (place : ℕ) → q ≡ circuit_bytes g → Finds b 0 used.certs None → IsLog (log_of claim) → a ≡ claim_bytes claim
@@ -273,4 +289,10 @@ module _ (law : CircuitLaw) (budget : ℕ) (given : List KnownRecord) (g : Circu
         λ start gates lowered are. new_use law budget given start gates used lowered before g w are new now claim reused free formed answered all found counted known,
         subst (IsFoundAt g new) (sym here) (new_found law budget given some.start some.gates used some.lowered before g w some.are new now claim reused free formed answered all found counted known),
         λ zero_is. first_is g budget given claim reused (known zero_is) answered,
+        λ query m there. subst (λ (k : List KnownRecord). HasQuery query k m) (sym all) (grows_more used.certs (record { query = circuit_bytes g; answer = claim_bytes claim }) query m there),
+        subst (λ (k : List KnownRecord). HasQuery (circuit_bytes g) k place) (sym all)
+            (subst (λ m. HasQuery (circuit_bytes g) (used.certs ++ record { query = circuit_bytes g; answer = claim_bytes claim } ∷ []) m) number (last_has used.certs (record { query = circuit_bytes g; answer = claim_bytes claim }))),
       )
+    where
+      number : length used.certs ≡ place
+      number = omega (arith, here, length-map some.are.certs found_of, length-map some.are.certs cert_record, ap length some.are.records_are, ap length some.are.found_are)

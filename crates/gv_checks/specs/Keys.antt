@@ -11,6 +11,7 @@ use Rattle.gv_lower.specs.Keys.{required_key}
 use Rattle.gv_lower.specs.Sites.{ClassSites, RequiredFlags}
 use Rattle.gv_usestate.specs.Kinds.{IsOneOf}
 use Rattle.gv_visible.specs.Candidates.{VisiblePkgs}
+use Rattle.gv_checks.specs.Alike.{AreFirsts}
 use Rattle.gv_checks.specs.Context.{case_of}
 use Rattle.gv_checks.specs.Walks.{seen}
 use Rattle.gv_checks.specs.declared.context.JudgedPkg.{JudgedPkg}
@@ -24,6 +25,7 @@ sites_in profiles p pkgs class = record { profiles = profiles; of = p; pkgs = pk
 
 -- those of each class that isn't broken
 pub record AreSitesOf (profiles : List Profile) (p : Pkg) (pkgs : List Pkg) (body : Body) (s : PkgSites) : Type 0 where
+  pub firsts : AreFirsts body s.firsts
   pub required : s.required ≡ option_map (flags_in profiles p) body.required
   pub depend : s.depend ≡ option_map (sites_in profiles p pkgs) body.depend
   pub bdepend : s.bdepend ≡ option_map (sites_in profiles p pkgs) body.bdepend

@@ -2,8 +2,9 @@
 use Rattle.std.specs.Prelude.{◌≡◌, ℕ, true, ◌<◌, ◌≤◌, List, [], ◌∷◌, ◌++◌, length, map, filter_map, Some, slice_get, Result, Ok, Err, if◌then◌else◌}
 use Rattle.std.specs.List.{AllByRecursion}
 use Rattle.gv_base.specs.Counts.{Counts}
-use Rattle.gv_cert.specs.Known.{KnownRecord}
+use Rattle.gv_cert.specs.Known.{HasQuery, KnownRecord}
 use Rattle.gv_cert.specs.declared.claim.Claim.{Claim}
+use Rattle.gv_logic.specs.Bytes.{circuit_bytes}
 use Rattle.gv_logic.specs.Circuits.{Circuit, IsCircuit}
 use Rattle.gv_query.specs.Asking.{IsSpent}
 use Rattle.gv_query.specs.Truth.{IsSo}
@@ -58,12 +59,18 @@ CountsAnswer (Ok answer) before now = now ≡ (if answer.reused then before else
 CountsAnswer (Err (asking.Spent sets)) before now = now ≡ after Solve before
 CountsAnswer (Err asking.NoMemory) before now = MayCount before now
 
+-- what stood at a number still does
+abbrev pub Grows : (old new : List KnownRecord) → Type 0
+Grows old new = (query : List ℕ) (n : ℕ) → HasQuery query old n → HasQuery query new n
+
 -- one more
 abbrev pub Uses : (budget : ℕ) → (given : List KnownRecord) → Circuit → (old new : Used) → (before now : Counts) → Result ℕ AskFault → Type 0
 Uses budget given g old new before now (Ok n) =
     ((start : Counts) (gates : List Circuit) (lowered : ℕ) → AreUsed budget given start gates old lowered before → AreUsed budget given start (gates ++ g ∷ []) new lowered now)
     × IsFoundAt g new n
     × (budget ≡ 0 → HasBacked given g)
+    × Grows old.certs new.certs
+    × HasQuery (circuit_bytes g) new.certs n
 Uses budget given g old new before now (Err fault) = SpentBy g budget given fault
 
 -- what was counted and reported before queries are judged

@@ -16,15 +16,20 @@ use Rattle.gv_lower.specs.Keys.{query_key, required_key}
 use Rattle.gv_lower.specs.Lowered.{IsQuery}
 use Rattle.gv_lower.specs.declared.query.Query as lowered
 use Rattle.gv_checks.specs.Asked.{asked_flags, asked_gates, asked_items, asked_weight}
-use Rattle.gv_cert.specs.Known.{KnownRecord}
+use Rattle.gv_cert.specs.Known.{HasQuery, KnownRecord}
 use Rattle.gv_logic.specs.Circuits.{Circuit, IsCircuit}
 use Rattle.gv_checks.specs.Certs.{HasBacked}
+use Rattle.gv_checks.specs.Cases.{Case}
+use Rattle.gv_checks.specs.Context.{case_of}
 use Rattle.gv_checks.specs.Limits.{Cause, IsWithin}
-use Rattle.gv_checks.specs.Progress.{AreUsed}
+use Rattle.gv_checks.specs.Progress.{AreUsed, Grows}
 use Rattle.gv_checks.specs.RepoReports.{query_report}
 use Rattle.gv_checks.specs.declared.fault.JudgeFault.{JudgeFault}
 use Rattle.gv_checks.specs.declared.judging.Progress.{Progress}
-use Rattle.gv_checks.specs.Queries.{Query, class_of, flags_of, gates_bytes, gates_of, items_of, required_of}
+use Rattle.gv_checks.specs.Queries.{Query, class_of, flags_of, gates_bytes, gates_of, items_of, query_of, required_of}
+use Rattle.gv_checks.specs.declared.context.JudgedPkg.{JudgedPkg}
+use Rattle.gv_checks.specs.declared.shared.Placed.{Placed}
+use Rattle.gv_checks.specs.declared.shared.Shared.{Shared}
 use Rattle.gv_checks.specs.declared.shared.SharedQuery.{SharedQuery}
 
 -- the key of a query
@@ -35,7 +40,7 @@ asked_key c required (Some class) = query_key c required class
 abbrev pub key_of : Query → List ℕ
 key_of q = asked_key q.case.parent (required_of q) (class_of q)
 
--- it is the query of the package for its class in some context with its key, and within the limits
+-- it is the query of the package for its class, or for one with the same expression, in some context with its key, and within the limits
 pub record IsShared (pkg : Pkg) (body : Body) (e : SharedQuery) : Type 0 where
   pub parent : Parent
   pub pkg_is : parent.pkg ≡ pkg
@@ -59,6 +64,38 @@ pub record IsLoweredAs (q : Query) (e : SharedQuery) : Type 0 where
 abbrev pub IsSharedAt : Query → List SharedQuery → ℕ → Type 0
 IsSharedAt q es n = (n < length es) × ((e : SharedQuery) → slice_get es n ≡ Some e → IsLoweredAs q e)
 
+-- the record that it names has its bytes
+abbrev pub IsNoted : (certs : List KnownRecord) → SharedQuery → Type 0
+IsNoted certs e = (n : ℕ) → e.place ≡ Some n → HasQuery e.bytes certs n
+
+abbrev pub AreNoted : (certs : List KnownRecord) → List SharedQuery → Type 0
+AreNoted certs es = AllByRecursion (IsNoted certs) es
+
+-- what is kept between the contexts of a package
+pub record AreKept (pkg : Pkg) (body : Body) (certs : List KnownRecord) (es : List SharedQuery) : Type 0 where
+  pub shared : AreShared pkg body es
+  pub noted : AreNoted certs es
+
+-- in a context: where the queries of classes stand
+abbrev pub ArePlaced : Case → List SharedQuery → List Placed → Type 0
+ArePlaced c es ps = AllByRecursion (λ p. IsSharedAt (query_of c p.class) es p.at) ps
+
+pub record AreHere (j : JudgedPkg) (s : Shared) : Type 0 where
+  pub shared : AreShared j.pkg.now j.body.now s.queries.items
+  pub placed : ArePlaced (case_of j) s.queries.items s.here.items
+
+pub record AreReady (j : JudgedPkg) (certs : List KnownRecord) (s : Shared) : Type 0 where
+  pub here : AreHere j s
+  pub noted : AreNoted certs s.queries.items
+
+-- with whatever certificates
+abbrev pub StayNoted : (old new : List SharedQuery) → Type 0
+StayNoted old new = (certs : List KnownRecord) → AreNoted certs old → AreNoted certs new
+
+-- the record of this number has the bytes of the query at this place
+abbrev pub IsAnsweredAt : (certs : List KnownRecord) → List SharedQuery → (at number : ℕ) → Type 0
+IsAnsweredAt certs es at number = (e : SharedQuery) → slice_get es at ≡ Some e → HasQuery e.bytes certs number
+
 -- at this place stands one of this class and with this key
 abbrev pub IsKeptAs : Class → (key : List ℕ) → List SharedQuery → ℕ → Type 0
 IsKeptAs class key es n = (n < length es) × ((e : SharedQuery) → slice_get es n ≡ Some e → (e.class ≡ class) × (e.key ≡ key))
@@ -74,6 +111,7 @@ pub record Keeps (class : Class) (key : List ℕ) (query : lowered.Query) (old n
   pub key_is : entry.key ≡ key
   pub query_is : entry.query ≡ query
   pub bytes_are : entry.bytes ≡ circuit_bytes query.gates
+  pub unanswered : entry.place ≡ None
 
 -- lowered once, or not
 abbrev pub MayLower : (before now : Counts) → Type 0
@@ -87,4 +125,6 @@ AnswersKept budget given q old new before now (Ok n) =
     × IsCircuit (gates_of q)
     × (new.reports ≡ old.reports ++ option_to_list (query_report q))
     × (new.queries ≡ old.queries + 1)
+    × Grows old.used.certs new.used.certs
+    × HasQuery (gates_bytes q) new.used.certs n
 AnswersKept budget given q old new before now (Err fault) = Cause budget given q fault × (new.queries ≡ old.queries)

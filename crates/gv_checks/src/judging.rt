@@ -9,7 +9,7 @@ ghost use Rattle.gv_visible.specs.Candidates.{test_of};
 ghost use Rattle.gv_checks.specs.Context.{AreAround, case_of};
 ghost use Rattle.gv_checks.specs.Keys.{ArePartsOf};
 ghost use Rattle.gv_checks.specs.Limits.{Cause, IsLimit, IsLimitOf, IsWithin};
-ghost use Rattle.gv_checks.specs.Shared.{AnswersKept, AreShared, IsLoweredAs};
+ghost use Rattle.gv_checks.specs.Shared.{AnswersKept, AreReady, IsLoweredAs, IsNoted};
 ghost use Rattle.gv_checks.specs.Progress.{AreSome, IsSomewhere, Judges};
 ghost use Rattle.gv_checks.specs.Queries.{case_queries, flags_of, gates_of, has_query, is_asked, is_selected, is_told, items_of, query_name, query_of};
 
@@ -101,12 +101,12 @@ pub(crate) fn judge_query<F: Fn(&Pkg) -> bool, L: Ledger>(
     requires around { AreAround (F.pre (test_of candidates.now)) (F.post (test_of candidates.now)) candidates.now judged.now }
     requires parts { ArePartsOf judged.now view.now sites.now required.now }
     requires has { has_query (case_of judged.now) class ≡ true }
-    requires shared { AreShared judged.now.pkg.now judged.now.body.now shared.old.queries.items }
+    requires shared { AreReady judged.now progress.old.used.certs shared.old }
     requires most { budget ≤ 1000000 }
     requires somewhere { IsSomewhere budget given.now progress.old steps.old }
     ensures judges { Judges budget given.now (query_of (case_of judged.now) class ∷ []) progress.old progress.new steps.old steps.new result }
     ensures unsolved { budget ≡ 0 → steps.new.solve ≡ steps.old.solve }
-    ensures shared { OnOk result (AreShared judged.now.pkg.now judged.now.body.now shared.new.queries.items) }
+    ensures shared { OnOk result (AreReady judged.now progress.new.used.certs shared.new) }
 {
     let at = match shared.place(
         alloc, candidates, judged, class, view, sites, required, steps,
@@ -205,6 +205,7 @@ fn judge_kept<L: Ledger>(
     steps: &mut Steps<L>,
 ) -> Result<usize, JudgeFault>
     requires kept { IsLoweredAs (query_of (case_of judged.now) class) kept.now }
+    requires noted { IsNoted progress.old.used.certs kept.now }
     requires most { budget ≤ 1000000 }
     requires used { AreSome budget given.now progress.old.used steps.old }
     ensures answers { AnswersKept budget given.now (query_of (case_of judged.now) class) progress.old progress.new steps.old steps.new result }

@@ -1,15 +1,17 @@
-//! What the keys of a package's queries are made of: what its classes ask about, found once for the package, and the key of its
-//! REQUIRED_USE, made once for each context.
+//! What the keys of a package's queries are made of: what its classes ask about and which of them have one and the same
+//! expression, found once for the package, and the key of its REQUIRED_USE, made once for each context.
 //!
 //! A key costs what `gv_lower` says of the key of its class.
 ghost use Rattle.std.specs.Prelude.{◌≡◌, ◌++◌, [], option_map, unwrap_or, IfOk, OnOk};
 ghost use Rattle.std.specs.Option.{option_copied};
 ghost use Rattle.gv_lower.specs.Keys.{required_key};
+ghost use Rattle.gv_checks.specs.Alike.{first_at};
 ghost use Rattle.gv_checks.specs.Context.{case_of};
 ghost use Rattle.gv_checks.specs.Keys.{ArePartsOf, AreSitesOf, HasSites, flags_in, sites_at, sites_in};
 ghost use Rattle.gv_checks.specs.Queries.{query_of};
 ghost use Rattle.gv_checks.specs.Shared.{key_of};
 
+use crate::alike::Firsts;
 use crate::context::JudgedPkg;
 use crate::views::ProfileView;
 use gv_base::NoMemory;
@@ -24,6 +26,8 @@ use std::alloc::Global;
 /// What the queries of a package ask about, of each class that isn't broken.
 #[derive(Drop)]
 pub(crate) struct PkgSites<'a> {
+    /// The classes that have the same expression.
+    pub(crate) firsts: Firsts,
     pub(crate) required: Option<RequiredFlags<'a>>,
     pub(crate) depend: Option<ClassSites<'a>>,
     pub(crate) bdepend: Option<ClassSites<'a>>,
@@ -44,6 +48,7 @@ impl<'a> PkgSites<'a> {
         ensures { IfOk result (AreSitesOf ruled.now pkg.now index.now body.now) }
     {
         Ok(PkgSites {
+            firsts: Firsts::of(body),
             required: required_in(alloc, ruled, pkg, &body.required)?,
             depend: sites_in(alloc, ruled, pkg, index, &body.depend)?,
             bdepend: sites_in(alloc, ruled, pkg, index, &body.bdepend)?,
@@ -51,6 +56,13 @@ impl<'a> PkgSites<'a> {
             pdepend: sites_in(alloc, ruled, pkg, index, &body.pdepend)?,
             idepend: sites_in(alloc, ruled, pkg, index, &body.idepend)?,
         })
+    }
+
+    /// The first class that has the expression of this one.
+    pub(crate) fn first(&self, class: Class) -> Class
+        ensures { result ≡ first_at self.now.firsts class }
+    {
+        self.firsts.at(class)
     }
 
     fn at(&self, class: Class) -> Option<&ClassSites<'a>>

@@ -8,13 +8,15 @@
 //! - `names`: the names of queries. `context`: a package in a profile that judges it.
 //! - `classes`: the classes in order, and the keywords of their queries.
 //! - `lowering`, `judging`, `used`: a query lowered, judged, and its answer kept, one for each distinct gates.
-//! - `views`: what each profile shows and says of flags. `keys`, `shared`: by what contexts of a package share a query.
+//! - `views`: what each profile shows and says of flags. `alike`, `keys`, `shared`: by what contexts and classes of a package
+//!   share a query.
 //! - `walking`, `whole`: all queries of a repository, and its reports and certificates. `recalled`: the same by records alone.
 //! - `reporting`: the report of a query. `nonexistent`, `unstated`, `plainly`: the reports that need no query.
 //! - `finding`, `one`, `known`: one query by its name, answered or looked up.
 //! - `laws`: what answers mean.
 #![tactic(auto)]
 
+mod alike;
 mod classes;
 mod context;
 mod fault;

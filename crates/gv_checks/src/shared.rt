@@ -1,20 +1,22 @@
-//! The queries of one package that were lowered, by their classes and keys: contexts in which the package has one and the
-//! same query share it.
+//! The queries of one package that were lowered, by their expressions and keys: contexts in which the package has one and the
+//! same query share it, and so do its classes with one and the same expression.
 //!
-//! A query costs its key and a comparison with each query that is kept; only where none has its class and key its lowering
-//! and the bytes of its gates. At most 64 are kept, so that the cost grows with the contexts and not with their square.
-ghost use Rattle.std.specs.Prelude.{◌≡◌, ◌⊎◌, [], ℕ, List, true, IfOk, IfErr, IfSome};
+//! In a context a class costs nothing but a look where one with its expression was asked about before. Any other costs its key
+//! and a comparison with each query that is kept; only where none has its expression and key its lowering and the bytes of its
+//! gates. At most 64 are kept, so that the cost grows with the contexts and not with their square.
+ghost use Rattle.std.specs.Prelude.{◌≡◌, ◌⊎◌, [], ◌∷◌, ◌++◌, ℕ, List, true, IfOk, IfErr, IfSome};
 ghost use Rattle.gv_base.specs.Steps.{after};
 ghost use Rattle.gv_base.specs.declared.steps.Kind.TheVariants.{Lower};
 ghost use Rattle.gv_cert.specs.Known.{KnownRecord};
-ghost use Rattle.gv_entry.specs.declared.entry.Body.{Body};
-ghost use Rattle.gv_facts.specs.declared.pkg.Pkg.{Pkg};
+ghost use Rattle.gv_entry.specs.Queries.{class_in};
 ghost use Rattle.gv_visible.specs.Candidates.{test_of};
+ghost use Rattle.gv_checks.specs.Cases.{Case};
 ghost use Rattle.gv_checks.specs.Context.{AreAround, case_of};
 ghost use Rattle.gv_checks.specs.Keys.{ArePartsOf};
 ghost use Rattle.gv_checks.specs.Limits.{Cause};
 ghost use Rattle.gv_checks.specs.Queries.{has_query, query_of};
-ghost use Rattle.gv_checks.specs.Shared.{AreShared, IsKeptAs, IsSharedAt, Keeps, MayLower, key_of};
+ghost use Rattle.gv_checks.specs.Shared.{AreHere, ArePlaced, AreReady, AreShared, IsAnsweredAt, IsKeptAs, IsSharedAt, Keeps, MayLower, StayNoted, key_of};
+ghost use Rattle.gv_checks.specs.declared.context.JudgedPkg.{JudgedPkg};
 
 use crate::JudgeFault;
 use crate::context::JudgedPkg;
@@ -34,13 +36,21 @@ const MOST_KEPT: usize = 64;
 /// A query that was lowered.
 #[derive(Drop)]
 pub(crate) struct SharedQuery {
+    /// The first of the package's classes with its expression.
     pub(crate) class: Class,
     pub(crate) key: Text,
     pub(crate) query: Query,
     /// The bytes of its gates.
     pub(crate) bytes: Text,
-    /// Where its answer may stand.
-    pub(crate) place: usize,
+    /// The place of its answer, where one is known.
+    pub(crate) place: Option<usize>,
+}
+
+/// Where the query of a class in the present context stands among those that are kept.
+#[derive(Clone, Copy)]
+pub(crate) struct Placed {
+    pub(crate) class: Class,
+    pub(crate) at: usize,
 }
 
 /// The queries of a package that are kept.
@@ -49,6 +59,8 @@ pub(crate) struct Shared {
     pub(crate) queries: Vec<SharedQuery>,
     // The key that was made last.
     pub(crate) key: Vec<u8>,
+    // Where those of the present context stand, as far as it is known.
+    pub(crate) here: Vec<Placed>,
 }
 
 fn is_kept(kept: &SharedQuery, class: Class, key: &[u8]) -> bool
@@ -65,7 +77,16 @@ impl Shared {
         Shared {
             queries: Vec::new(alloc),
             key: Vec::new(alloc),
+            here: Vec::new(alloc),
         }
+    }
+
+    /// Begins a context.
+    pub(crate) fn begin(&mut self)
+        ensures queries { self.new.queries.items ≡ self.old.queries.items }
+        ensures here { self.new.here.items ≡ [] }
+    {
+        self.here.clear();
     }
 
     // The place of a query of this class with the key that was made last.
@@ -81,10 +102,24 @@ impl Shared {
         None
     }
 
+    // The place of the query of this class in the present context.
+    fn find_here(&self, class: Class) -> Option<usize>
+        ensures { IfSome result (λ at. (c : Case) → ArePlaced c self.now.queries.items self.now.here.items → IsSharedAt (query_of c class) self.now.queries.items at) }
+    {
+        for placed in &self.here {
+            if placed.class == class {
+                return Some(placed.at);
+            }
+        }
+        None
+    }
+
     fn make_room(&mut self)
         ensures queries { (self.new.queries.items ≡ self.old.queries.items) ⊎ (self.new.queries.items ≡ []) }
         ensures key { self.new.key ≡ self.old.key }
+        ensures here { self.new.here.items ≡ [] }
     {
+        self.here.clear();
         if self.queries.len() >= MOST_KEPT {
             self.queries.clear();
         }
@@ -92,7 +127,8 @@ impl Shared {
 
     // Keeps a query of this class with the key that was made last.
     fn keep(&mut self, alloc: Global, class: Class, query: Query) -> Result<usize, NoMemory>
-        ensures { IfOk result (Keeps class self.old.key.items query self.old.queries.items self.new.queries.items) }
+        ensures keeps { IfOk result (Keeps class self.old.key.items query self.old.queries.items self.new.queries.items) }
+        ensures here { self.new.here.items ≡ [] }
     {
         self.make_room();
         let key = Text::of(alloc, &self.key)?;
@@ -103,26 +139,29 @@ impl Shared {
             key,
             query,
             bytes,
-            place: 0,
+            place: None,
         })?;
         Ok(place)
     }
 
-    // Lowers the query, and keeps it.
+    // Lowers the query, and keeps it as that of the first class with its expression.
     fn lower<F: Fn(&Pkg) -> bool, L: Ledger>(
         &mut self,
         alloc: Global,
         candidates: &Candidates<'_, F>,
         judged: &JudgedPkg<'_>,
         class: Class,
+        first: Class,
         steps: &mut Steps<L>,
     ) -> Result<usize, JudgeFault>
         requires around { AreAround (F.pre (test_of candidates.now)) (F.post (test_of candidates.now)) candidates.now judged.now }
         requires has { has_query (case_of judged.now) class ≡ true }
+        requires first { class_in judged.now.body.now first ≡ class_in judged.now.body.now class }
         requires key { self.old.key.items ≡ key_of (query_of (case_of judged.now) class) }
         requires shared { AreShared judged.now.pkg.now judged.now.body.now self.old.queries.items }
         ensures at { IfOk result (IsSharedAt (query_of (case_of judged.now) class) self.new.queries.items) }
-        ensures shared { IfOk result (λ _. AreShared judged.now.pkg.now judged.now.body.now self.new.queries.items) }
+        ensures here { IfOk result (λ _. AreHere judged.now self.new) }
+        ensures noted { IfOk result (λ _. StayNoted self.old.queries.items self.new.queries.items) }
         ensures refused { IfErr result (λ fault. (budget : ℕ) (given : List KnownRecord) → Cause budget given (query_of (case_of judged.now) class) fault) }
         ensures steps { steps.new ≡ after Lower steps.old }
     {
@@ -130,13 +169,57 @@ impl Shared {
             Ok(query) => query,
             Err(fault) => return Err(fault),
         };
-        match self.keep(alloc, class, query) {
+        match self.keep(alloc, first, query) {
             Ok(place) => Ok(place),
             Err(NoMemory) => Err(JudgeFault::NoMemory),
         }
     }
 
-    /// The place of the query, which is lowered where no context of the package had it.
+    // The place of the query, which is lowered where none that is kept has its expression and key.
+    fn seek<F: Fn(&Pkg) -> bool, L: Ledger>(
+        &mut self,
+        alloc: Global,
+        candidates: &Candidates<'_, F>,
+        judged: &JudgedPkg<'_>,
+        class: Class,
+        view: &ProfileView<'_>,
+        sites: &PkgSites<'_>,
+        required: &[u8],
+        steps: &mut Steps<L>,
+    ) -> Result<usize, JudgeFault>
+        requires parts { ArePartsOf judged.now view.now sites.now required.now }
+        requires around { AreAround (F.pre (test_of candidates.now)) (F.post (test_of candidates.now)) candidates.now judged.now }
+        requires has { has_query (case_of judged.now) class ≡ true }
+        requires here { AreHere judged.now self.old }
+        ensures at { IfOk result (IsSharedAt (query_of (case_of judged.now) class) self.new.queries.items) }
+        ensures here { IfOk result (λ _. AreHere judged.now self.new) }
+        ensures noted { IfOk result (λ _. StayNoted self.old.queries.items self.new.queries.items) }
+        ensures refused { IfErr result (λ fault. (budget : ℕ) (given : List KnownRecord) → Cause budget given (query_of (case_of judged.now) class) fault) }
+        ensures steps { MayLower steps.old steps.new }
+    {
+        key_law();
+        let first = sites.first(class);
+        self.key.clear();
+        match sites.add_key(judged, class, view, required, &mut self.key) {
+            Ok(()) => {}
+            Err(NoMemory) => return Err(JudgeFault::NoMemory),
+        }
+        match self.find(first) {
+            Some(place) => Ok(place),
+            None => self.lower(alloc, candidates, judged, class, first, steps),
+        }
+    }
+
+    // Notes where the query of a class in the present context stands.
+    fn add_here(&mut self, class: Class, at: usize) -> Result<(), NoMemory>
+        ensures queries { self.new.queries.items ≡ self.old.queries.items }
+        ensures here { IfOk result (λ _. self.new.here.items ≡ self.old.here.items ++ record { class = class; at = at } ∷ []) }
+    {
+        self.here.push(Placed { class, at })?;
+        Ok(())
+    }
+
+    /// The place of the query, which is lowered where no class with its expression had it in any context of the package.
     pub(crate) fn place<F: Fn(&Pkg) -> bool, L: Ledger>(
         &mut self,
         alloc: Global,
@@ -151,30 +234,34 @@ impl Shared {
         requires parts { ArePartsOf judged.now view.now sites.now required.now }
         requires around { AreAround (F.pre (test_of candidates.now)) (F.post (test_of candidates.now)) candidates.now judged.now }
         requires has { has_query (case_of judged.now) class ≡ true }
-        requires shared { AreShared judged.now.pkg.now judged.now.body.now self.old.queries.items }
+        requires here { AreHere judged.now self.old }
         ensures at { IfOk result (IsSharedAt (query_of (case_of judged.now) class) self.new.queries.items) }
-        ensures shared { IfOk result (λ _. AreShared judged.now.pkg.now judged.now.body.now self.new.queries.items) }
+        ensures here { IfOk result (λ _. AreHere judged.now self.new) }
+        ensures noted { IfOk result (λ _. StayNoted self.old.queries.items self.new.queries.items) }
         ensures refused { IfErr result (λ fault. (budget : ℕ) (given : List KnownRecord) → Cause budget given (query_of (case_of judged.now) class) fault) }
         ensures steps { MayLower steps.old steps.new }
     {
-        key_law();
-        self.key.clear();
-        match sites.add_key(judged, class, view, required, &mut self.key) {
-            Ok(()) => {}
-            Err(NoMemory) => return Err(JudgeFault::NoMemory),
+        let first = sites.first(class);
+        if let Some(at) = self.find_here(first) {
+            return Ok(at);
         }
-        match self.find(class) {
-            Some(place) => Ok(place),
-            None => self.lower(alloc, candidates, judged, class, steps),
+        match self.seek(
+            alloc, candidates, judged, class, view, sites, required, steps,
+        ) {
+            Ok(at) => match self.add_here(first, at) {
+                Ok(()) => Ok(at),
+                Err(NoMemory) => Err(JudgeFault::NoMemory),
+            },
+            Err(fault) => Err(fault),
         }
     }
 
     /// Notes where the answer of the query at a place stands.
     pub(crate) fn note(&mut self, at: usize, place: usize)
-        ensures { (pkg : Pkg) (body : Body) → AreShared pkg body self.old.queries.items → AreShared pkg body self.new.queries.items }
+        ensures { (judged : JudgedPkg) (certs : List KnownRecord) → AreReady judged certs self.old → IsAnsweredAt certs self.old.queries.items at place → AreReady judged certs self.new }
     {
         match self.queries.get_mut(at) {
-            Some(kept) => kept.place = place,
+            Some(kept) => kept.place = Some(place),
             None => {}
         }
     }

@@ -1,8 +1,8 @@
 //! Answers to gates, one for each distinct ones.
 //!
-//! Gates cost a look-up by their bytes, O(their places and operands), and where a record is known that has them, a comparison;
+//! Gates cost a look-up by their bytes, O(their places and operands), and nothing where the number of their record is known;
 //! only the first time their records or the solver.
-ghost use Rattle.std.specs.Prelude.{◌≡◌, true, ◌<◌, ◌≤◌, ◌∷◌, ◌++◌, [], length, if◌then◌else◌, IfOk, IfErr, OnOk};
+ghost use Rattle.std.specs.Prelude.{◌≡◌, ℕ, Some, true, ◌<◌, ◌≤◌, ◌∷◌, ◌++◌, [], length, if◌then◌else◌, IfOk, IfErr, OnOk};
 ghost use Rattle.gv_base.specs.Steps.{after};
 ghost use Rattle.gv_base.specs.declared.steps.Kind.TheVariants.{Solve};
 ghost use Rattle.gv_cert.specs.Claim.{IsAnswer, claim_bytes};
@@ -108,16 +108,6 @@ impl Used {
         Ok(())
     }
 
-    // Whether the record of this number is there and has the bytes.
-    fn has_at(&self, number: usize, query: &[u8]) -> bool
-        ensures { result ≡ true → HasQuery query.now self.now.certs number }
-    {
-        match u32::try_from(number) {
-            Ok(near) if near < self.certs.count() => self.certs.query(near) == query,
-            _ => false,
-        }
-    }
-
     // The place of what is found for the gates, which have these bytes, and are asked about where they are new; with no
     // budget, of the records alone.
     fn place<L: Ledger>(
@@ -147,17 +137,18 @@ impl Used {
         Ok(place)
     }
 
-    /// The same, but where the record of this number has these bytes, they are looked for no further.
+    /// The same, but where the number of a record with these bytes is known, they aren't looked for.
     pub(crate) fn place_near<L: Ledger>(
         &mut self,
         alloc: Global,
-        near: usize,
+        near: Option<usize>,
         query: &Text,
         gates: &Gates,
         budget: u32,
         given: &Known,
         steps: &mut Steps<L>,
     ) -> Result<usize, AskFault>
+        requires near { (n : ℕ) → near ≡ Some n → HasQuery query.now self.old.certs n }
         requires bytes { query.now ≡ circuit_bytes gates.now }
         requires most { budget ≤ 1000000 }
         requires used { AreSome budget given.now self.old steps.old }
@@ -166,10 +157,10 @@ impl Used {
     {
         circuit_law();
         let _inputs = gates.inputs();
-        if self.has_at(near, query.bytes()) {
-            return Ok(near);
+        match near {
+            Some(near) => Ok(near),
+            None => self.place(alloc, query, gates, budget, given, steps),
         }
-        self.place(alloc, query, gates, budget, given, steps)
     }
 }
 

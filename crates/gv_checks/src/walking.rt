@@ -8,7 +8,7 @@ ghost use Rattle.gv_visible.specs.Candidates.{test_of};
 ghost use Rattle.gv_checks.specs.Cases.{case_in, cases_of, members, members_from};
 ghost use Rattle.gv_checks.specs.Context.{AreAround, IsNumbered, case_of};
 ghost use Rattle.gv_checks.specs.Keys.{ArePartsOf, HasSites};
-ghost use Rattle.gv_checks.specs.Shared.{AreShared};
+ghost use Rattle.gv_checks.specs.Shared.{AreKept, AreReady};
 ghost use Rattle.gv_checks.specs.Walks.{seen};
 ghost use Rattle.gv_checks.specs.Progress.{IsSomewhere, Judges};
 ghost use Rattle.gv_checks.specs.Queries.{case_queries, is_asked, queries, query_name, query_of};
@@ -106,10 +106,10 @@ fn judge_classes<F: Fn(&Pkg) -> bool, L: Ledger>(
     requires around { AreAround (F.pre (test_of candidates.now)) (F.post (test_of candidates.now)) candidates.now judged.now }
     requires most { budget ≤ 1000000 }
     requires somewhere { IsSomewhere budget given.now progress.old steps.old }
-    requires shared { AreShared judged.now.pkg.now judged.now.body.now shared.old.queries.items }
+    requires shared { AreReady judged.now progress.old.used.certs shared.old }
     ensures judges { Judges budget given.now (map (query_of (case_of judged.now)) (filter (is_asked options.now (case_of judged.now)) classes.now)) progress.old progress.new steps.old steps.new result }
     ensures unsolved { budget ≡ 0 → steps.new.solve ≡ steps.old.solve }
-    ensures shared { OnOk result (AreShared judged.now.pkg.now judged.now.body.now shared.new.queries.items) }
+    ensures shared { OnOk result (AreReady judged.now progress.new.used.certs shared.new) }
 {
     for class in classes {
         if is_asked(options, judged, *class) {
@@ -143,12 +143,13 @@ fn judge_case<'a, L: Ledger>(
     requires sites { HasSites judged.now sites.now }
     requires most { budget ≤ 1000000 }
     requires somewhere { IsSomewhere budget given.now progress.old steps.old }
-    requires shared { AreShared judged.now.pkg.now judged.now.body.now shared.old.queries.items }
+    requires shared { AreKept judged.now.pkg.now judged.now.body.now progress.old.used.certs shared.old.queries.items }
     ensures judges { Judges budget given.now (case_queries options.now (case_of judged.now)) progress.old progress.new steps.old steps.new result }
     ensures unsolved { budget ≡ 0 → steps.new.solve ≡ steps.old.solve }
-    ensures shared { OnOk result (AreShared judged.now.pkg.now judged.now.body.now shared.new.queries.items) }
+    ensures shared { OnOk result (AreKept judged.now.pkg.now judged.now.body.now progress.new.used.certs shared.new.queries.items) }
 {
     make_required_key(judged, view.states(), sites, required)?;
+    shared.begin();
     let profile = view.profile();
     let level = judged.level;
     let test = |pkg: &Pkg| visible(pkg, profile, level);

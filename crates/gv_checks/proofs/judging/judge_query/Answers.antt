@@ -3,7 +3,7 @@ use Rattle.gv_checks.specs.Context.{case_of}
 use Rattle.gv_checks.specs.Queries.{gates_of, query_of}
 use Rattle.gv_checks.specs.Shared.{IsLoweredAs}
 use Rattle.gv_checks.proofs.JudgeLemmas.{query_judged, query_refused, some_used}
-use Rattle.gv_checks.proofs.SharedLemmas.{at_kept}
+use Rattle.gv_checks.proofs.SharedLemmas.{answered_at, at_kept, noted_at, ready_grow}
 use Rattle.gv_checks.proofs.judging.judge_query.Goals as goal
 
 pub returns-in-Err-clause-judges : goal.returns-in-Err-clause-judges
@@ -21,5 +21,14 @@ returns-clause-judges g c =
     c.args.steps.now c.place.new.steps c.judge_kept.new.steps refl c.in-Ok-judge_kept.ensures.answers.2 kept.within c.place.ensures.steps c.in-Ok-judge_kept.ensures.answers.0 c.in-Ok-judge_kept.ensures.answers.1
     c.in-Ok-judge_kept.ensures.answers.3 c.in-Ok-judge_kept.ensures.answers.4
 
+pub judge_kept-requires-clause-noted : goal.judge_kept-requires-clause-noted
+judge_kept-requires-clause-noted g c =
+    noted_at c.args.progress.now.used.certs c.place.new.self.queries.items c.in-Ok.at c.index-kept.result.now c.in-Ok.ensures.at.0 c.index-kept.ensures
+    (c.in-Ok.ensures.noted c.args.progress.now.used.certs c.requires.shared.noted)
+
 pub returns-clause-shared : goal.returns-clause-shared
-returns-clause-shared g c = c.note.ensures c.args.judged.now.pkg.now c.args.judged.now.body.now c.in-Ok.ensures.shared
+returns-clause-shared g c =
+    c.note.ensures c.args.judged.now c.judge_kept.new.progress.used.certs
+    (ready_grow c.args.judged.now c.args.progress.now.used.certs c.judge_kept.new.progress.used.certs c.place.new.self c.in-Ok-judge_kept.ensures.answers.5 c.in-Ok.ensures.here
+    (c.in-Ok.ensures.noted c.args.progress.now.used.certs c.requires.shared.noted))
+    (answered_at (query_of (case_of c.args.judged.now) c.args.class) c.judge_kept.new.progress.used.certs c.place.new.self.queries.items c.in-Ok.at c.in-Ok-judge_kept.place c.in-Ok.ensures.at c.in-Ok-judge_kept.ensures.answers.6)

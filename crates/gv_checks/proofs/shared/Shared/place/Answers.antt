@@ -1,11 +1,14 @@
-use Rattle.std.proofs.Common.{◌≡◌, rules}
+use Rattle.std.proofs.Common.{subst, sym}
 use Rattle.gv_checks.specs.Context.{case_of}
-use Rattle.gv_checks.specs.Queries.{query_of}
-use Rattle.gv_checks.specs.Shared.{key_of}
-use Rattle.gv_checks.proofs.SharedLemmas.{found_at}
+use Rattle.gv_checks.specs.Shared.{AreNoted}
+use Rattle.gv_checks.proofs.SharedLemmas.{as_place, first_same}
 use Rattle.gv_checks.proofs.shared.Shared.place.Goals as goal
 
 pub returns-in-Some-clause-at : goal.returns-in-Some-clause-at
 returns-in-Some-clause-at g c =
-    let is : c.add_key.new.key.items ≡ key_of (query_of (case_of c.args.judged.now) c.args.class) = search rules in
-    found_at (record { allowed = c.key_law.ensures.allowed; failing = c.key_law.ensures.failing }) (query_of (case_of c.args.judged.now) c.args.class) c.args.self.now.queries.items c.add_key.new.key.items c.in-Some.place c.requires.shared is c.in-Some.ensures
+    as_place (case_of c.args.judged.now) c.first-first.result c.args.class c.args.self.now.queries.items c.in-Some.at
+    (first_same c.args.judged.now c.args.view.now c.args.sites.now c.args.required.now c.requires.parts c.args.class c.first-first.result c.first-first.ensures)
+    (c.in-Some.ensures (case_of c.args.judged.now) c.requires.here.placed)
+
+pub returns-in-Ok-add_here-clause-noted : goal.returns-in-Ok-add_here-clause-noted
+returns-in-Ok-add_here-clause-noted g c = λ certs all. subst (AreNoted certs) (sym c.add_here.ensures.queries) (c.in-Ok.ensures.noted certs all)
