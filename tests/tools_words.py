@@ -34,7 +34,7 @@ class Words:
         self.all = {name: parts[kind] for name, kind in named(table, "command_named word =").items()}
         self.taken = {name: sides for name, sides in self.all.items() if self.takes(binary, name)}
         self.values = {"--" + name for name in self.options}
-        self.keywords = re.findall(r'^keyword_text .* = codes "(\w+)"', definitions("gv_report/specs/Keywords.antt"), re.M)
+        self.keywords = re.findall(r'^keyword_text .* = codes "(\w+)"', definitions("gv_report/specs/Keyword.antt"), re.M)
         values = definitions("gv_words/specs/Values.antt")
         self.budget = re.search(r"budget_of None = Some (\d+)\nbudget_of .* = number_in (\d+) (\d+)", values).groups()
         endings = definitions("gvis/specs/Endings.antt")
@@ -61,7 +61,7 @@ def example(option, words):
 def the_table_is_read(binary, _):
     words = Words(binary)
     return (list(words.all), "scan" in words.taken, len(words.keywords), len(words.behind("scan")), words.statuses), (
-        ["scan", "verify", "session", "demo"], True, 13, 6, list(range(8)))
+        ["scan", "verify", "session", "demo"], True, 13, 6, list(range(9)))
 
 
 def the_program_takes_what_the_table_has(binary, _):
@@ -129,7 +129,7 @@ def manual_tells_the_budget(binary, _):
 def examples():
     """Each example of the manual that calls the program: its words, and the rest of its line."""
     lines = "\n".join(re.findall(r"^\.Bd[^\n]*\n(.*?)^\.Ed", manual(), re.M | re.S)).replace("\\e\n", "")
-    return [(line.split("|")[0].split(">")[0].split(), line) for line in lines.splitlines() if line.startswith("gvis ")]
+    return [(re.split("[|<>]", line)[0].split(), line) for line in lines.splitlines() if line.startswith("gvis ")]
 
 
 def each_word_has_an_example(binary, _):
@@ -148,7 +148,8 @@ def examples_are_commands(binary, folder):
             words[2] = "repo"
         for option, file in (("--certs", "C"), ("--report", "report")):
             words = [file if before == option else option + "=" + file if word.startswith(option + "=") else word for before, word in zip([""] + words, words)]
-        got[line] = run([binary, *words[1:]], cwd=folder)[0] in (0, 1)
+        given = {"stdin": None, "input": "report\nend\n"} if words[1] == "session" else {}
+        got[line] = run([binary, *words[1:]], cwd=folder, **given)[0] in (0, 1)
     return (got, len(got) > 6), ({line: True for _, line in examples()}, True)
 
 
@@ -167,7 +168,7 @@ def statuses_are_as_told(binary, folder):
     got = [run([binary, "scan", *words, "--certs=" + file], cwd=folder)[0] for words, file in [
         (["repo", "--keywords", "StaleCache"], "C"), (["repo"], "C"), (["repo", "--fresh=1"], "C"), (["repo"], "gone/C"),
         (["two", "--budget", "2"], "C"), (["gone"], "C"), (["large"], "C")]]
-    return got, [0, 1, 2, 3, 4, 6, 7]
+    return got + [run([binary, "session", "repo"], cwd=folder)[0]], [0, 1, 2, 3, 4, 6, 7, 8]
 
 
 @needs("mandoc")

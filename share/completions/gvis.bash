@@ -4,6 +4,7 @@
 declare -gA _gvis_options=(
     [scan]="--certs --fresh --json --keywords --profiles --budget"
     [verify]="--certs --report --json --keywords --profiles"
+    [session]="--json --keywords --profiles --budget"
     [demo]=""
 )
 _gvis_alone="help --help --version"

@@ -43,18 +43,19 @@ end
 complete -c gvis -f
 complete -c gvis -n __gvis_no_command -a scan -d 'Report which dependencies of a repository cannot be met'
 complete -c gvis -n __gvis_no_command -a verify -d 'Hold a report against certificates'
+complete -c gvis -n __gvis_no_command -a session -d 'Serve the edits and reports of a script'
 complete -c gvis -n __gvis_no_command -a demo -d 'Sum up a repository that a number draws'
 complete -c gvis -n __gvis_no_command -a help -d 'Show the words of each command'
 complete -c gvis -n __gvis_no_command -s h -l help -d 'Show the words of each command'
 complete -c gvis -n __gvis_no_command -l version -d 'Tell the version'
 
 # For each option the commands that have it.
-complete -c gvis -n '__gvis_is scan verify; and __gvis_no_root' -a '(__fish_complete_directories)'
+complete -c gvis -n '__gvis_is scan verify session; and __gvis_no_root' -a '(__fish_complete_directories)'
 complete -c gvis -n '__gvis_is scan verify' -l certs -r -F -d 'Where the certificates are kept'
 complete -c gvis -n '__gvis_is verify' -l report -r -F -d 'The report that is held against them'
 complete -c gvis -n '__gvis_is scan' -l fresh -d 'Pass over earlier certificates'
-complete -c gvis -n '__gvis_is scan verify' -l json -d 'An object a line'
-complete -c gvis -n '__gvis_is scan verify' -l keywords -x -d 'These kinds of reports alone' \
+complete -c gvis -n '__gvis_is scan verify session' -l json -d 'An object a line'
+complete -c gvis -n '__gvis_is scan verify session' -l keywords -x -d 'These kinds of reports alone' \
     -a '(__gvis_list ProfileError ProfileNote MetadataError StaleCache OrphanCache MissingCache NonexistentDeps NonsolvableDepsInStable NonsolvableDepsInDev NonsolvableDepsInExp UnsatisfiableRequiredUse UnstatedIuse VisibleVcsPkg)'
-complete -c gvis -n '__gvis_is scan verify' -l profiles -x -a '(__gvis_profiles)' -d 'These profiles alone'
-complete -c gvis -n '__gvis_is scan' -l budget -x -a '65536 1000000' -d 'Sets that one question may keep'
+complete -c gvis -n '__gvis_is scan verify session' -l profiles -x -a '(__gvis_profiles)' -d 'These profiles alone'
+complete -c gvis -n '__gvis_is scan session' -l budget -x -a '65536 1000000' -d 'Sets that one question may keep'

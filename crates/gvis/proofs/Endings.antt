@@ -24,12 +24,13 @@ use Rattle.gv_checks.specs.declared.fault.JudgeFault.TheVariants as judges
 use Rattle.gv_checks.specs.declared.names.QueryName.{QueryName}
 use Rattle.gvis.specs.declared.asking.Asked.{Asked}
 use Rattle.gvis.specs.declared.refusal.Refusal.{Refusal}
-use Rattle.gvis.specs.declared.refusal.Refusal.TheVariants.{BadWords, TreeFailed, StoreFailed, OutputFailed, Spent, NoMemory, NotARepository, Limit}
+use Rattle.gvis.specs.declared.refusal.Refusal.TheVariants.{BadWords, TreeFailed, StoreFailed, OutputFailed, Spent, NoMemory, NotARepository, Limit, InputFailed, BadCommand}
 use Rattle.gvis.specs.Asking.{AsksFor}
 use Rattle.gvis.specs.Endings.{Told, SaysNothing, TellsRefusal, well_status}
 use Rattle.gvis.specs.Fetching.{IsGiven}
 use Rattle.gvis.specs.Performs.{Ending, Performs}
 use Rattle.gvis.specs.Run.{Entered, IsPastLimit, IsSpentAt, Reports, ScanRefuses, World}
+use Rattle.gvis.specs.Session.{Fed}
 use Rattle.gvis.specs.Scan.{Fits, IsCovered, IsLoaded, IsPastOne, IsUnloaded, Says, unloaded_status}
 use Rattle.gvis.proofs.Performed.{Ends, IsWhy, five_only, or_five, scan_ends}
 
@@ -52,12 +53,12 @@ covered_not_spent X budget given q sets (inl few) spent =
 covered_not_spent X budget given q sets (inr backed) spent = absurd (spent.none backed.0 backed.1)
 
 -- where each query fits, none is refused
-not_past : (X : Type 0) (options : Options) (given : List KnownRecord) (repo : Repo) (place : List ℕ) (number : ℕ) → Fits options given repo
+pub not_past : (X : Type 0) (options : Options) (given : List KnownRecord) (repo : Repo) (place : List ℕ) (number : ℕ) → Fits options given repo
     → IsRefused options.budget given (queries options repo) (judges.Limit place number) → X
 not_past X options given repo place number fits refused =
     within_not_past X refused.query number (one_of IsWithin refused.before refused.query refused.behind (subst (AllByRecursion IsWithin) refused.queries_are fits.within)) refused.cause.1
 
-not_spent : (X : Type 0) (options : Options) (given : List KnownRecord) (repo : Repo) (name : QueryName) (sets : List (List ℕ)) → Fits options given repo
+pub not_spent : (X : Type 0) (options : Options) (given : List KnownRecord) (repo : Repo) (name : QueryName) (sets : List (List ℕ)) → Fits options given repo
     → IsRefused options.budget given (queries options repo) (judges.Spent name sets) → X
 not_spent X options given repo name sets fits refused =
     let covered = one_of (IsCovered options.budget given) refused.before refused.query refused.behind (subst (AllByRecursion (IsCovered options.budget given)) refused.queries_are fits.covered) in
@@ -79,11 +80,11 @@ meets P W [] (z ∷ ys) x y xs' ys' e p w = inr (inr (subst W (sym (ap (first x)
 meets P W (z ∷ xs) [] x y xs' ys' e p w = inl (subst P (ap (first z) e) p.0)
 meets P W (z ∷ xs) (u ∷ ys) x y xs' ys' e p w = meets P W xs ys x y xs' ys' (ap others e) p.1 w.1
 
-one_not_within : (X : Type 0) (options : Options) (given : List KnownRecord) (repo : Repo) → AllByRecursion IsWithin (queries options repo) → IsPastOne options given repo → X
+pub one_not_within : (X : Type 0) (options : Options) (given : List KnownRecord) (repo : Repo) → AllByRecursion IsWithin (queries options repo) → IsPastOne options given repo → X
 one_not_within X options given repo within one =
     within_not_past X one.query one.number (one_of IsWithin one.before one.query one.behind (subst (AllByRecursion IsWithin) one.queries_are within)) one.past
 
-one_not_spent : (X : Type 0) (options : Options) (given : List KnownRecord) (repo : Repo) (name : QueryName) (sets : List (List ℕ)) → IsPastOne options given repo
+pub one_not_spent : (X : Type 0) (options : Options) (given : List KnownRecord) (repo : Repo) (name : QueryName) (sets : List (List ℕ)) → IsPastOne options given repo
     → IsRefused options.budget given (queries options repo) (judges.Spent name sets) → X
 one_not_spent X options given repo name sets one refused =
     by (meets (IsCovered options.budget given) IsWithin one.before refused.before one.query refused.query one.behind refused.behind (sym one.queries_are ∙ refused.queries_are) one.covered refused.within)
@@ -108,17 +109,17 @@ says_unloaded : (told : Option FileMap) (options : Options) (given : List KnownR
 says_unloaded None options given fault status unloaded says = tt
 says_unloaded (Some m) options given fault status unloaded says = subst (λ r. Says options given r status) (sym unloaded) says
 
-past_says : (told : Option FileMap) (a : Asked) (given : List KnownRecord) (place : List ℕ) (number status : ℕ) → IsPastLimit told a given place number → (status ≡ 7) ⊎ (status ≡ 5)
-    → IfSome told (λ files. Says a.options given (loading (look_of files)) status)
-past_says told a given place number status (inl unloaded) says = says_unloaded told a.options given _ status unloaded says
-past_says told a given place number status (inr (repo, unjudged)) says =
-    says_loaded told a.options given repo status unjudged.loaded ((λ fits. not_past _ a.options given repo place number fits unjudged.refuses), (λ one. says))
+pub past_says : (told : Option FileMap) (options : Options) (given : List KnownRecord) (place : List ℕ) (number status : ℕ) → IsPastLimit told options given place number → (status ≡ 7) ⊎ (status ≡ 5)
+    → IfSome told (λ files. Says options given (loading (look_of files)) status)
+past_says told options given place number status (inl unloaded) says = says_unloaded told options given _ status unloaded says
+past_says told options given place number status (inr (repo, unjudged)) says =
+    says_loaded told options given repo status unjudged.loaded ((λ fits. not_past _ options given repo place number fits unjudged.refuses), (λ one. says))
 
-spent_says : (told : Option FileMap) (a : Asked) (given : List KnownRecord) (text : List ℕ) (status : ℕ) → IsSpentAt told a given text
-    → IfSome told (λ files. Says a.options given (loading (look_of files)) status)
-spent_says told a given text status at =
-    says_loaded told a.options given at.repo status at.unjudged.loaded
-    ((λ fits. not_spent _ a.options given at.repo at.name at.sets fits at.unjudged.refuses), (λ one. one_not_spent _ a.options given at.repo at.name at.sets one at.unjudged.refuses))
+pub spent_says : (told : Option FileMap) (options : Options) (given : List KnownRecord) (text : List ℕ) (status : ℕ) → IsSpentAt told options given text
+    → IfSome told (λ files. Says options given (loading (look_of files)) status)
+spent_says told options given text status at =
+    says_loaded told options given at.repo status at.unjudged.loaded
+    ((λ fits. not_spent _ options given at.repo at.name at.sets fits at.unjudged.refuses), (λ one. one_not_spent _ options given at.repo at.name at.sets one at.unjudged.refuses))
 
 -- words are one scan at most
 abbrev asked_of : Asked → Command → Asked
@@ -138,16 +139,18 @@ module _ (law : IsOneCommand) (words : List (List ℕ)) (old new : World) (a : A
   module _ (tree : Rose old.tree_faults new.tree_faults → ⊥) (store : Rose old.store_faults new.store_faults → ⊥) (out : Rose old.out_faults new.out_faults → ⊥) where
     refused_says : (err : Told) (refusal : Refusal) → ScanRefuses words old new refusal → TellsRefusal err refusal status → IsSaid a old.files old.kept status
     refused_says err BadWords why tells = absurd why
+    refused_says err InputFailed why tells = absurd why
+    refused_says err (BadCommand number) why tells = absurd why
     refused_says err (TreeFailed path) why tells = absurd (tree why.why.0)
     refused_says err (StoreFailed path) (inl why) tells = absurd (store why.why.1)
     refused_says err (StoreFailed path) (inr why) tells = absurd (store why.why.1.0)
     refused_says err OutputFailed why tells = absurd (out why.why.0)
-    refused_says err (Spent text) why tells = said why.asked why.given why.entered (spent_says old.files why.asked why.given text status why.why.1)
+    refused_says err (Spent text) why tells = said why.asked why.given why.entered (spent_says old.files why.asked.options why.given text status why.why.1)
     refused_says err NoMemory why tells = inl (five_only status (or_five err NoMemory status tells))
     refused_says err (NotARepository path) why tells =
         said why.asked why.given why.entered (says_unloaded old.files why.asked.options why.given _ status why.why.1.1 (or_five err (NotARepository path) status tells))
     refused_says err (Limit place number) why tells =
-        said why.asked why.given why.entered (past_says old.files why.asked why.given place number status why.why.1 (or_five err (Limit place number) status tells))
+        said why.asked why.given why.entered (past_says old.files why.asked.options why.given place number status why.why.1 (or_five err (Limit place number) status tells))
 
     by_why : (err : Told) (refusal : Refusal) → IsWhy old new (ScanRefuses words old new) refusal → TellsRefusal err refusal status → IsSaid a old.files old.kept status
     by_why err refusal (inl none) tells = inl (five_only status (or_five err NoMemory status (subst (λ r. TellsRefusal err r status) none.1 tells)))
@@ -161,6 +164,6 @@ module _ (law : IsOneCommand) (words : List (List ℕ)) (old new : World) (a : A
         (says_loaded old.files r.asked.options r.given r.repo status r.answered.loaded ((λ fits. inl (well.0 ∙ r.status_is)), (λ one. one_not_within _ r.asked.options r.given r.repo r.answered.within one)))
     by_ends err (Err refusal) ends well refused = by_why err refusal ends.refusal refused
 
-    pub complete : (err : Told) (ending : Ending) → Performs words old new ending →
+    pub complete : (err : Told) (input : Fed) (ending : Ending) → Performs words old new input ending →
         IfOk ending (λ some. (status ≡ well_status some) × SaysNothing err) → IfErr ending (λ refusal. TellsRefusal err refusal status) → IsSaid a old.files old.kept status
-    complete err ending performs well refused = by_ends err ending (scan_ends words old new a asks ending performs) well refused
+    complete err input ending performs well refused = by_ends err ending (scan_ends words old new input a asks ending performs) well refused

@@ -6,7 +6,7 @@ use Rattle.std.specs.Option.{option_map}
 use Rattle.gv_base.specs.FileMap.{FileMap}
 use Rattle.gvis.specs.declared.answering.Answers.{Answers}
 use Rattle.gvis.specs.declared.refusal.Refusal.{Refusal}
-use Rattle.gvis.specs.declared.refusal.Refusal.TheVariants.{BadWords, TreeFailed, StoreFailed, OutputFailed, Spent, NoMemory, NotARepository, Limit}
+use Rattle.gvis.specs.declared.refusal.Refusal.TheVariants.{BadWords, TreeFailed, StoreFailed, OutputFailed, Spent, NoMemory, NotARepository, Limit, InputFailed, BadCommand}
 use Rattle.gvis.specs.Endings.{GainsFront}
 use Rattle.gvis.specs.ScanSteps.{IsKept, IsUnkept, KeepCause, LeaveCause, WriteCause, writing}
 
@@ -17,6 +17,8 @@ module _ (path : List ℕ) (answers : Answers) (k k' : Option FileMap) (kb kn : 
 
     pub unkept : (refusal : Refusal) → KeepCause path kb kn refusal → LeaveCause path answers (writing k k' kb kn o o ob ob) refusal
     unkept BadWords cause = cause
+    unkept InputFailed cause = cause
+    unkept (BadCommand number) cause = cause
     unkept (TreeFailed place) cause = cause
     unkept (StoreFailed place) cause = (cause.0, (cause.1, left))
     unkept OutputFailed cause = absurd cause
@@ -31,6 +33,8 @@ module _ (path : List ℕ) (answers : Answers) (k k' : Option FileMap) (kb kn : 
 
     pub unwritten : (refusal : Refusal) → WriteCause ob on refusal → LeaveCause path answers (writing k k' kb kn o o' ob on) refusal
     unwritten BadWords cause = cause
+    unwritten InputFailed cause = cause
+    unwritten (BadCommand number) cause = cause
     unwritten (TreeFailed place) cause = cause
     unwritten (StoreFailed place) cause = absurd cause
     unwritten OutputFailed cause = (stays, (cause, front))

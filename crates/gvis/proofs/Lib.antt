@@ -4,7 +4,11 @@ pub mod Endings
 pub mod Gains
 pub mod Leaving
 pub mod Performed
+pub mod Replied
 pub mod Scanned
+pub mod Served
+pub mod SessionEndings
+pub mod Sessions
 pub mod Summed
 pub mod Verified
 pub mod VerifyEndings

@@ -14,12 +14,13 @@ use Rattle.gv_checks.specs.RepoReports.{scan_text}
 use Rattle.gvis.specs.declared.answering.Answers.{Answers}
 use Rattle.gvis.specs.declared.asking.Asked.{Asked}
 use Rattle.gvis.specs.declared.refusal.Refusal.{Refusal}
-use Rattle.gvis.specs.declared.refusal.Refusal.TheVariants.{BadWords, TreeFailed, StoreFailed, OutputFailed, Spent, NoMemory, NotARepository, Limit}
+use Rattle.gvis.specs.declared.refusal.Refusal.TheVariants.{BadWords, TreeFailed, StoreFailed, OutputFailed, Spent, NoMemory, NotARepository, Limit, InputFailed, BadCommand}
 use Rattle.gvis.specs.Asking.{AsksFor}
 use Rattle.gvis.specs.Endings.{GainsFront, well_status}
 use Rattle.gvis.specs.Fetching.{IsGiven}
 use Rattle.gvis.specs.Run.{AreAnswered, Entered, Keeps, Stopped, StoppedBehind, Unfetched, Untouched, World, world}
 use Rattle.gvis.specs.Performs.{Ending, Performs, Refuses}
+use Rattle.gvis.specs.Session.{Fed}
 use Rattle.gvis.specs.Scan.{said_by}
 use Rattle.gvis.specs.ScanSteps.{AnswerCause, HasAnswers, HasLeft, IsKept, KeepCause, LeaveCause, RootReports, ScansRoot, Stops, reading, writing}
 
@@ -33,6 +34,8 @@ module _ (a : Asked) (given : List KnownRecord) (r r' : Option (List ℕ)) (f f'
   pub answer_stops : (k : Option FileMap) (kb : ℕ) (o : Option (List ℕ)) (ob : ℕ) (refusal : Refusal) → AnswerCause a given (reading f t t' c c') refusal
       → Stops a given (world r f t k kb o ob c) (world r' f' t' k kb o ob c') refusal
   answer_stops k kb o ob BadWords cause = cause
+  answer_stops k kb o ob InputFailed cause = cause
+  answer_stops k kb o ob (BadCommand number) cause = cause
   answer_stops k kb o ob (TreeFailed path) cause = (record { store = (refl, refl); out = (refl, refl) }, cause)
   answer_stops k kb o ob (StoreFailed path) cause = absurd cause
   answer_stops k kb o ob OutputFailed cause = absurd cause
@@ -72,6 +75,8 @@ module _ (a : Asked) (given : List KnownRecord) (r r' : Option (List ℕ)) (f f'
     -- a refusal of the store or the output
     pub leave_stops : (refusal : Refusal) → LeaveCause a.file answers (writing k k' kb kn o o' ob on) refusal → Stops a given before now refusal
     leave_stops BadWords cause = cause
+    leave_stops InputFailed cause = cause
+    leave_stops (BadCommand number) cause = cause
     leave_stops (TreeFailed path) cause = absurd cause
     leave_stops (StoreFailed path) cause = (has.repo, has.are.certs, answered, (cause.0, (cause.1.0, (cause.1.1.others, (cause.1.1.out, cause.1.1.out_calm)))))
     leave_stops OutputFailed cause = (has.repo, has.are.certs, answered, (cause.1.0, (keeps cause.0, front cause.1.1)))
@@ -96,9 +101,9 @@ module _ (a : Asked) (given : List KnownRecord) (r r' : Option (List ℕ)) (f f'
 -- ---- and behind the words, the certificate file and the entering of the root
 
 -- the certificate file could not be taken
-pub unfetched : (words : List (List ℕ)) (a : Asked) (r0 r1 : Option (List ℕ)) (f : Option FileMap) (t : ℕ) (k : Option FileMap) (kb kn : ℕ) (o : Option (List ℕ)) (ob : ℕ) (c : Counts) →
-    AsksFor words a → r1 ≡ Some a.root → a.fresh ≡ false → kb ≤ kn → (refusal : Refusal) → KeepCause a.file kb kn refusal → Performs words (world r0 f t k kb o ob c) (world r1 f t k kn o ob c) (Err refusal)
-unfetched words a r0 r1 f t k kb kn o ob c asks is unfresh later refusal cause = record {
+pub unfetched : (words : List (List ℕ)) (input : Fed) (a : Asked) (r0 r1 : Option (List ℕ)) (f : Option FileMap) (t : ℕ) (k : Option FileMap) (kb kn : ℕ) (o : Option (List ℕ)) (ob : ℕ) (c : Counts) →
+    AsksFor words a → r1 ≡ Some a.root → a.fresh ≡ false → kb ≤ kn → (refusal : Refusal) → KeepCause a.file kb kn refusal → Performs words (world r0 f t k kb o ob c) (world r1 f t k kn o ob c) input (Err refusal)
+unfetched words input a r0 r1 f t k kb kn o ob c asks is unfresh later refusal cause = record {
   done = tt;
   refusal = by refusal cause;
   files = refl;
@@ -126,8 +131,10 @@ unfetched words a r0 r1 f t k kb kn o ob c asks is unfresh later refusal cause =
       why = why;
     }
 
-    by : (refusal : Refusal) → KeepCause a.file kb kn refusal → Refuses words start after refusal
+    by : (refusal : Refusal) → KeepCause a.file kb kn refusal → Refuses words start after input refusal
     by BadWords cause = absurd cause
+    by InputFailed cause = absurd cause
+    by (BadCommand number) cause = absurd cause
     by (TreeFailed path) cause = absurd cause
     by (StoreFailed path) cause = inl (inl (left _ cause))
     by OutputFailed cause = absurd cause
@@ -136,7 +143,7 @@ unfetched words a r0 r1 f t k kb kn o ob c asks is unfresh later refusal cause =
     by (NotARepository path) cause = absurd cause
     by (Limit place number) cause = absurd cause
 
-module _ (words : List (List ℕ)) (a : Asked) (r0 r1 : Option (List ℕ)) (f : Option FileMap) (t : ℕ) (k : Option FileMap) (kb : ℕ) (o : Option (List ℕ)) (ob : ℕ) (c : Counts) (after : World) (given : List KnownRecord) (entered : Entered words a given (world r0 f t k kb o ob c) after) where
+module _ (words : List (List ℕ)) (input : Fed) (a : Asked) (r0 r1 : Option (List ℕ)) (f : Option FileMap) (t : ℕ) (k : Option FileMap) (kb : ℕ) (o : Option (List ℕ)) (ob : ℕ) (c : Counts) (after : World) (given : List KnownRecord) (entered : Entered words a given (world r0 f t k kb o ob c) after) where
   abbrev start : World
   start = world r0 f t k kb o ob c
 
@@ -167,8 +174,10 @@ module _ (words : List (List ℕ)) (a : Asked) (r0 r1 : Option (List ℕ)) (f : 
   behind : (Why : Asked → Repo → List Cert → Type 0) (repo : Repo) (certs : List Cert) → AreAnswered a given inside after repo certs → Why a repo certs → StoppedBehind words start after Why
   behind Why repo certs are why = record { asked = a; given = given; repo = repo; certs = certs; entered = entered; answered = again repo certs are; why = why }
 
-  refuses : (refusal : Refusal) → Stops a given inside after refusal → Refuses words start after refusal
+  refuses : (refusal : Refusal) → Stops a given inside after refusal → Refuses words start after input refusal
   refuses BadWords stops = absurd stops
+  refuses InputFailed stops = absurd stops
+  refuses (BadCommand number) stops = absurd stops
   refuses (TreeFailed path) stops = inl (stopped _ stops.0 stops.1)
   refuses (StoreFailed path) stops = inl (inr (behind _ stops.0 stops.1 stops.2 stops.3))
   refuses OutputFailed stops = inl (behind _ stops.0 stops.1 stops.2 (stops.3.0, (keeps_still stops.1 stops.3.1.0, stops.3.1.1)))
@@ -179,9 +188,9 @@ module _ (words : List (List ℕ)) (a : Asked) (r0 r1 : Option (List ℕ)) (f : 
   refuses (NotARepository path) stops = inl (stopped _ stops.0 stops.1)
   refuses (Limit place number) stops = inl (stopped _ stops.0 stops.1)
 
-pub scans : (words : List (List ℕ)) (a : Asked) (given : List KnownRecord) (r0 r1 : Option (List ℕ)) (f : Option FileMap) (t : ℕ) (k : Option FileMap) (kb : ℕ) (o : Option (List ℕ)) (ob : ℕ) (c : Counts) (after : World) (ending : Ending) →
-    AsksFor words a → IsGiven a k given → r1 ≡ Some a.root → ScansRoot a given (world r1 f t k kb o ob c) after ending → Performs words (world r0 f t k kb o ob c) after ending
-scans words a given r0 r1 f t k kb o ob c after (Ok some) asks gives is scanned =
+pub scans : (words : List (List ℕ)) (input : Fed) (a : Asked) (given : List KnownRecord) (r0 r1 : Option (List ℕ)) (f : Option FileMap) (t : ℕ) (k : Option FileMap) (kb : ℕ) (o : Option (List ℕ)) (ob : ℕ) (c : Counts) (after : World) (ending : Ending) →
+    AsksFor words a → IsGiven a k given → r1 ≡ Some a.root → ScansRoot a given (world r1 f t k kb o ob c) after ending → Performs words (world r0 f t k kb o ob c) after input ending
+scans words input a given r0 r1 f t k kb o ob c after (Ok some) asks gives is scanned =
     let entered : Entered words a given (world r0 f t k kb o ob c) after = record { asked = asks; given_are = gives; root = scanned.root ∙ is } in
     let w = scanned.reports in
     record {
@@ -191,8 +200,8 @@ scans words a given r0 r1 f t k kb o ob c after (Ok some) asks gives is scanned 
         repo = w.repo;
         certs = w.certs;
         entered = entered;
-        answered = again words a r0 r1 f t k kb o ob c after given entered w.repo w.certs w.answered;
-        store = keeps_still words a r0 r1 f t k kb o ob c after given entered w.certs w.store;
+        answered = again words input a r0 r1 f t k kb o ob c after given entered w.repo w.certs w.answered;
+        store = keeps_still words input a r0 r1 f t k kb o ob c after given entered w.certs w.store;
         out = w.out;
         calm = w.calm;
         status_is = w.status_is;
@@ -203,11 +212,11 @@ scans words a given r0 r1 f t k kb o ob c after (Ok some) asks gives is scanned 
       store_later = scanned.store_later;
       out_later = scanned.out_later;
     }
-scans words a given r0 r1 f t k kb o ob c after (Err refusal) asks gives is scanned =
+scans words input a given r0 r1 f t k kb o ob c after (Err refusal) asks gives is scanned =
     let entered : Entered words a given (world r0 f t k kb o ob c) after = record { asked = asks; given_are = gives; root = scanned.root ∙ is } in
     record {
       done = tt;
-      refusal = refuses words a r0 r1 f t k kb o ob c after given entered refusal scanned.stops;
+      refusal = refuses words input a r0 r1 f t k kb o ob c after given entered refusal scanned.stops;
       files = scanned.files;
       tree_later = scanned.tree_later;
       store_later = scanned.store_later;

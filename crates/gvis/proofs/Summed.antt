@@ -17,11 +17,12 @@ use Rattle.gv_checks.specs.Queries.{queries}
 use Rattle.gv_checks.specs.RepoReports.{scan_text}
 use Rattle.gv_checks.specs.declared.whole.Judged.{Judged}
 use Rattle.gvis.specs.declared.refusal.Refusal.{Refusal}
-use Rattle.gvis.specs.declared.refusal.Refusal.TheVariants.{BadWords, TreeFailed, StoreFailed, OutputFailed, Spent, NoMemory, NotARepository, Limit}
+use Rattle.gvis.specs.declared.refusal.Refusal.TheVariants.{BadWords, TreeFailed, StoreFailed, OutputFailed, Spent, NoMemory, NotARepository, Limit, InputFailed, BadCommand}
 use Rattle.gvis.specs.Asking.{AsksForDemo}
 use Rattle.gvis.specs.Endings.{GainsFront, Told, SaysNothing, TellsRefusal, well_status}
 use Rattle.gvis.specs.Performs.{Ending, Performs, Refuses}
 use Rattle.gvis.specs.Run.{World, world}
+use Rattle.gvis.specs.Session.{Fed}
 use Rattle.gvis.specs.ScanSteps.{WriteCause}
 use Rattle.gvis.specs.Summary.{AsDemo, CutsSummary, DemoRefuses, IsSummary, Summarises, summary_text}
 use Rattle.gvis.proofs.AnswerLemmas.{PickedLaw, text_is}
@@ -45,7 +46,7 @@ is_summary number options repo text summary defaults loaded packages queries_are
   text_is = sums ∙ ap summary_text told;
 }
 
-module _ (words : List (List ℕ)) (number : ℕ) (asks : AsksForDemo words number) (r : Option (List ℕ)) (f : Option FileMap) (t : ℕ) (k : Option FileMap) (kb : ℕ) (c c' : Counts) where
+module _ (words : List (List ℕ)) (input : Fed) (number : ℕ) (asks : AsksForDemo words number) (r : Option (List ℕ)) (f : Option FileMap) (t : ℕ) (k : Option FileMap) (kb : ℕ) (c c' : Counts) where
   module _ (o o' : Option (List ℕ)) (ob on : ℕ) where
     abbrev before : World
     before = world r f t k kb o ob c
@@ -56,9 +57,9 @@ module _ (words : List (List ℕ)) (number : ℕ) (asks : AsksForDemo words numb
     is_demo : AsDemo words number before now
     is_demo = record { asked = asks; root = refl; tree = refl; store = (refl, refl) }
 
-    pub summed : (summary : List ℕ) → IsSummary number summary → o' ≡ gains o summary → on ≡ ob → ob ≤ on → Performs words before now (Ok false)
+    pub summed : (summary : List ℕ) → IsSummary number summary → o' ≡ gains o summary → on ≡ ob → ob ≤ on → Performs words before now input (Ok false)
     summed summary is out calm later = record {
-      done = inr (inr (record { number = number; as_demo = is_demo; summary = summary; is = is; out = out; calm = calm; status_is = refl }));
+      done = inr (inr (inl (record { number = number; as_demo = is_demo; summary = summary; is = is; out = out; calm = calm; status_is = refl })));
       refusal = tt;
       files = refl;
       tree_later = omega arith;
@@ -69,17 +70,19 @@ module _ (words : List (List ℕ)) (number : ℕ) (asks : AsksForDemo words numb
     cuts : (summary : List ℕ) → IsSummary number summary → GainsFront o o' summary → CutsSummary words before now
     cuts summary is front = record { number = number; as_demo = is_demo; summary = summary; is = is; front = front }
 
-    refuses : (summary : List ℕ) → IsSummary number summary → GainsFront o o' summary → (refusal : Refusal) → WriteCause ob on refusal → Refuses words before now refusal
+    refuses : (summary : List ℕ) → IsSummary number summary → GainsFront o o' summary → (refusal : Refusal) → WriteCause ob on refusal → Refuses words before now input refusal
     refuses summary is front BadWords cause = absurd cause
+    refuses summary is front InputFailed cause = absurd cause
+    refuses summary is front (BadCommand number) cause = absurd cause
     refuses summary is front (TreeFailed path) cause = absurd cause
     refuses summary is front (StoreFailed path) cause = absurd cause
-    refuses summary is front OutputFailed cause = inr (inr (cuts summary is front, cause))
+    refuses summary is front OutputFailed cause = inr (inr (inl (cuts summary is front, cause)))
     refuses summary is front (Spent text) cause = absurd cause
-    refuses summary is front NoMemory cause = inr (inr (inr (inr (cuts summary is front))))
+    refuses summary is front NoMemory cause = inr (inr (inr (inl (inr (cuts summary is front)))))
     refuses summary is front (NotARepository path) cause = absurd cause
     refuses summary is front (Limit place n) cause = absurd cause
 
-    pub cut : (summary : List ℕ) → IsSummary number summary → GainsFront o o' summary → ob ≤ on → (refusal : Refusal) → WriteCause ob on refusal → Performs words before now (Err refusal)
+    pub cut : (summary : List ℕ) → IsSummary number summary → GainsFront o o' summary → ob ≤ on → (refusal : Refusal) → WriteCause ob on refusal → Performs words before now input (Err refusal)
     cut summary is front later refusal cause = record {
       done = tt;
       refusal = refuses summary is front refusal cause;
@@ -89,10 +92,10 @@ module _ (words : List (List ℕ)) (number : ℕ) (asks : AsksForDemo words numb
       out_later = later;
     }
 
-  pub unsummed : (o : Option (List ℕ)) (ob : ℕ) → Performs words (world r f t k kb o ob c) (world r f t k kb o ob c') (Err NoMemory)
+  pub unsummed : (o : Option (List ℕ)) (ob : ℕ) → Performs words (world r f t k kb o ob c) (world r f t k kb o ob c') input (Err NoMemory)
   unsummed o ob = record {
     done = tt;
-    refusal = inr (inr (inr (inl (record { number = number; as_demo = record { asked = asks; root = refl; tree = refl; store = (refl, refl) }; out = (refl, refl) }))));
+    refusal = inr (inr (inr (inl (inl (record { number = number; as_demo = record { asked = asks; root = refl; tree = refl; store = (refl, refl) }; out = (refl, refl) })))));
     files = refl;
     tree_later = omega arith;
     store_later = omega arith;
@@ -106,6 +109,8 @@ module _ (words : List (List ℕ)) (old new : World) (status : ℕ) (out : Rose 
   why_demo OutputFailed why tells = absurd (out why.1)
   why_demo NoMemory why tells = inr (five_only status (or_five err NoMemory status tells))
   why_demo BadWords why tells = absurd why
+  why_demo InputFailed why tells = absurd why
+  why_demo (BadCommand number) why tells = absurd why
   why_demo (TreeFailed path) why tells = absurd why
   why_demo (StoreFailed path) why tells = absurd why
   why_demo (Spent name) why tells = absurd why
@@ -121,6 +126,6 @@ module _ (words : List (List ℕ)) (old new : World) (status : ℕ) (out : Rose 
   ends_demo (Ok some) ends well refused = inl (well.0 ∙ ends.done.status_is)
   ends_demo (Err refusal) ends well refused = refused_demo refusal ends.refusal refused
 
-  pub complete_demo : (number : ℕ) → AsksForDemo words number → (ending : Ending) → Performs words old new ending →
+  pub complete_demo : (number : ℕ) → AsksForDemo words number → (input : Fed) (ending : Ending) → Performs words old new input ending →
       IfOk ending (λ some. (status ≡ well_status some) × SaysNothing err) → IfErr ending (λ refusal. TellsRefusal err refusal status) → (status ≡ 0) ⊎ (status ≡ 5)
-  complete_demo number asks ending performs well refused = ends_demo ending (demo_ends words old new number asks ending performs) well refused
+  complete_demo number asks input ending performs well refused = ends_demo ending (demo_ends words old new input number asks ending performs) well refused

@@ -9,13 +9,14 @@ use Rattle.gv_cert.specs.Known.{KnownRecord}
 use Rattle.gv_load.specs.declared.loading.Repo.{Repo}
 use Rattle.gvis.specs.declared.asking.Verification.{Verification}
 use Rattle.gvis.specs.declared.refusal.Refusal.{Refusal}
-use Rattle.gvis.specs.declared.refusal.Refusal.TheVariants.{BadWords, TreeFailed, StoreFailed, OutputFailed, Spent, NoMemory, NotARepository, Limit}
+use Rattle.gvis.specs.declared.refusal.Refusal.TheVariants.{BadWords, TreeFailed, StoreFailed, OutputFailed, Spent, NoMemory, NotARepository, Limit, InputFailed, BadCommand}
 use Rattle.gvis.specs.declared.verdict.Verdict.{Verdict}
 use Rattle.gvis.specs.Asking.{AsksToVerify}
 use Rattle.gvis.specs.Endings.{GainsFront, well_status}
 use Rattle.gvis.specs.Fetching.{AreRecordsAt, IsFileAt}
 use Rattle.gvis.specs.Performs.{Ending, Performs, Refuses}
 use Rattle.gvis.specs.Run.{SameOut, World, world}
+use Rattle.gvis.specs.Session.{Fed}
 use Rattle.gvis.specs.Scan.{IsLoaded}
 use Rattle.gvis.specs.ScanSteps.{KeepCause, ReadCause, WriteCause}
 use Rattle.gvis.specs.Verify.{AreFetched, AsVerification, CutsVerdict, HasVerdict, IsVerdict, NoVerdict, is_refused, verdict_text}
@@ -27,6 +28,8 @@ pub first_untaken : (v : Verification) (before now : ℕ) (refusal : Refusal) �
 first_untaken v before now (StoreFailed path) cause = (inl cause.0, cause.1)
 first_untaken v before now NoMemory cause = tt
 first_untaken v before now BadWords cause = cause
+first_untaken v before now InputFailed cause = cause
+first_untaken v before now (BadCommand number) cause = cause
 first_untaken v before now (TreeFailed path) cause = cause
 first_untaken v before now OutputFailed cause = cause
 first_untaken v before now (Spent text) cause = cause
@@ -37,6 +40,8 @@ pub second_untaken : (v : Verification) (before middle now : ℕ) → middle ≡
 second_untaken v before middle now calm (StoreFailed path) cause = (inr cause.0, subst (λ n. Rose n now) calm cause.1)
 second_untaken v before middle now calm NoMemory cause = tt
 second_untaken v before middle now calm BadWords cause = cause
+second_untaken v before middle now calm InputFailed cause = cause
+second_untaken v before middle now calm (BadCommand number) cause = cause
 second_untaken v before middle now calm (TreeFailed path) cause = cause
 second_untaken v before middle now calm OutputFailed cause = cause
 second_untaken v before middle now calm (Spent text) cause = cause
@@ -54,6 +59,8 @@ module _ (v : Verification) (f : Option FileMap) (tb : ℕ) (k : Option FileMap)
   untaken (StoreFailed path) cause = (cause.0, (cause.1, (refl, refl)))
   untaken NoMemory cause = tt
   untaken BadWords cause = cause
+  untaken InputFailed cause = cause
+  untaken (BadCommand number) cause = cause
   untaken (TreeFailed path) cause = absurd cause
   untaken OutputFailed cause = cause
   untaken (Spent text) cause = cause
@@ -67,6 +74,8 @@ module _ (v : Verification) (f : Option FileMap) (tb : ℕ) (k : Option FileMap)
   unread calm tn (Limit place number) cause = (calm, (cause.0, inl cause.1))
   unread calm tn NoMemory cause = tt
   unread calm tn BadWords cause = cause
+  unread calm tn InputFailed cause = cause
+  unread calm tn (BadCommand number) cause = cause
   unread calm tn (StoreFailed path) cause = absurd cause
   unread calm tn OutputFailed cause = cause
   unread calm tn (Spent text) cause = cause
@@ -77,6 +86,8 @@ module _ (v : Verification) (f : Option FileMap) (tb : ℕ) (k : Option FileMap)
     unheld (Limit place number) cause = (calm, (still, inr (record { repo = repo; given = given; report = report; loaded = loaded; fetched = fetched; refused = cause })))
     unheld NoMemory cause = tt
     unheld BadWords cause = cause
+    unheld InputFailed cause = cause
+    unheld (BadCommand number) cause = cause
     unheld (TreeFailed path) cause = absurd cause
     unheld (StoreFailed path) cause = absurd cause
     unheld OutputFailed cause = cause
@@ -97,6 +108,8 @@ module _ (v : Verification) (r r' : Option (List ℕ)) (f f' : Option FileMap) (
   root_stops o ob (Limit place number) cause = ((refl, refl), cause)
   root_stops o ob NoMemory cause = inl (refl, refl)
   root_stops o ob BadWords cause = cause
+  root_stops o ob InputFailed cause = cause
+  root_stops o ob (BadCommand number) cause = cause
   root_stops o ob OutputFailed cause = absurd cause
   root_stops o ob (Spent text) cause = cause
 
@@ -131,6 +144,8 @@ module _ (v : Verification) (r r' : Option (List ℕ)) (f f' : Option FileMap) (
     line_stops front OutputFailed cause = (cut front, cause)
     line_stops front NoMemory cause = inr (cut front)
     line_stops front BadWords cause = cause
+    line_stops front InputFailed cause = cause
+    line_stops front (BadCommand number) cause = cause
     line_stops front (TreeFailed path) cause = absurd cause
     line_stops front (StoreFailed path) cause = absurd cause
     line_stops front (Spent place) cause = cause
@@ -142,7 +157,7 @@ module _ (v : Verification) (r r' : Option (List ℕ)) (f f' : Option FileMap) (
 
 -- ---- behind the entering of the root
 
-module _ (words : List (List ℕ)) (v : Verification) (asks : AsksToVerify words v) (r0 r1 : Option (List ℕ)) (f : Option FileMap) (t : ℕ) (k : Option FileMap) (kb : ℕ) (o : Option (List ℕ)) (ob : ℕ) (c : Counts) (after : World) where
+module _ (words : List (List ℕ)) (input : Fed) (v : Verification) (asks : AsksToVerify words v) (r0 r1 : Option (List ℕ)) (f : Option FileMap) (t : ℕ) (k : Option FileMap) (kb : ℕ) (o : Option (List ℕ)) (ob : ℕ) (c : Counts) (after : World) where
   abbrev start : World
   start = world r0 f t k kb o ob c
 
@@ -168,7 +183,7 @@ module _ (words : List (List ℕ)) (v : Verification) (asks : AsksToVerify words
     none : (Why : Verification → Type 0) → SameOut inside after → Why v → NoVerdict words start after Why
     none Why out why = record { verification = v; as_verification = asked; out = out; why = why }
 
-    refuses : (refusal : Refusal) → RootStops v inside after refusal → Refuses words start after refusal
+    refuses : (refusal : Refusal) → RootStops v inside after refusal → Refuses words start after input refusal
     refuses (StoreFailed path) stops = inr (inl (none _ stops.0 stops.1))
     refuses (TreeFailed path) stops = inr (inl (none _ stops.0 stops.1))
     refuses (NotARepository path) stops = inr (inl (none _ stops.0 stops.1))
@@ -177,9 +192,11 @@ module _ (words : List (List ℕ)) (v : Verification) (asks : AsksToVerify words
     refuses NoMemory (inl out) = inr (inr (inl (inl (none _ out tt))))
     refuses NoMemory (inr cut) = inr (inr (inl (inr (cuts cut))))
     refuses BadWords stops = absurd stops
+    refuses InputFailed stops = absurd stops
+    refuses (BadCommand number) stops = absurd stops
     refuses (Spent text) stops = absurd stops
 
-  pub verifies : (ending : Ending) → r1 ≡ Some v.root → VerifiesRoot v inside after ending → Performs words start after ending
+  pub verifies : (ending : Ending) → r1 ≡ Some v.root → VerifiesRoot v inside after ending → Performs words start after input ending
   verifies (Ok some) is root =
       let asked : AsVerification words v start after = record { asked = asks; root = root.root ∙ is; kept = root.kept; unsolved = root.unsolved } in
       let w = root.done in

@@ -32,7 +32,7 @@ use Rattle.gv_verify.specs.declared.verifying.VerifyFault.{VerifyFault}
 use Rattle.gv_verify.specs.declared.verifying.VerifyFault.TheVariants as faults
 use Rattle.gvis.specs.declared.asking.Verification.{Verification}
 use Rattle.gvis.specs.declared.refusal.Refusal.{Refusal}
-use Rattle.gvis.specs.declared.refusal.Refusal.TheVariants.{BadWords, TreeFailed, StoreFailed, OutputFailed, Spent, NoMemory, NotARepository, Limit}
+use Rattle.gvis.specs.declared.refusal.Refusal.TheVariants.{BadWords, TreeFailed, StoreFailed, OutputFailed, Spent, NoMemory, NotARepository, Limit, InputFailed, BadCommand}
 use Rattle.gvis.specs.declared.verdict.Verdict.{Verdict}
 use Rattle.gvis.specs.declared.verdict.Verdict.TheVariants.{Accepted, NotBacked, OtherText}
 use Rattle.gvis.specs.Asking.{AsksToVerify}
@@ -40,6 +40,7 @@ use Rattle.gvis.specs.Endings.{Told, SaysNothing, TellsRefusal, well_status}
 use Rattle.gvis.specs.Fetching.{AreRecordsAt, IsFileAt, file_at}
 use Rattle.gvis.specs.Performs.{Ending, Performs}
 use Rattle.gvis.specs.Run.{World}
+use Rattle.gvis.specs.Session.{Fed}
 use Rattle.gvis.specs.Scan.{IsLoaded, IsUnloaded, unloaded_status}
 use Rattle.gvis.specs.Verify.{IsLeftByScan, IsPastAt, IsPastOneIn, IsVerdict, Verifies, VerifyRefuses, VerifySays, is_refused}
 use Rattle.gvis.proofs.Endings.{meets, one_of, within_not_past}
@@ -64,11 +65,11 @@ module _ (words : List (List ℕ)) (old new : World) where
   unsolved_ends (Ok some) ends = ends.done.as_verification.unsolved
   unsolved_ends (Err refusal) ends = unsolved_refused refusal ends.refusal
 
-  pub only_read : (v : Verification) → AsksToVerify words v → (ending : Ending) → Performs words old new ending → new.kept ≡ old.kept
-  only_read v asks ending performs = kept_ends ending (verify_ends words old new v asks ending performs)
+  pub only_read : (v : Verification) → AsksToVerify words v → (input : Fed) (ending : Ending) → Performs words old new input ending → new.kept ≡ old.kept
+  only_read v asks input ending performs = kept_ends ending (verify_ends words old new input v asks ending performs)
 
-  pub unsolved : (v : Verification) → AsksToVerify words v → (ending : Ending) → Performs words old new ending → new.counts.solve ≡ old.counts.solve
-  unsolved v asks ending performs = unsolved_ends ending (verify_ends words old new v asks ending performs)
+  pub unsolved : (v : Verification) → AsksToVerify words v → (input : Fed) (ending : Ending) → Performs words old new input ending → new.counts.solve ≡ old.counts.solve
+  unsolved v asks input ending performs = unsolved_ends ending (verify_ends words old new input v asks ending performs)
 
 -- ---- words are one verification at most
 
@@ -160,6 +161,8 @@ module _ (law : IsOneCommand) (words : List (List ℕ)) (old new : World) (v : V
     refused_says OutputFailed why tells = absurd (out why.1)
     refused_says NoMemory why tells = inl (five_only status (or_five err NoMemory status tells))
     refused_says BadWords why tells = absurd why
+    refused_says InputFailed why tells = absurd why
+    refused_says (BadCommand number) why tells = absurd why
     refused_says (Spent name) why tells = absurd why
 
     why_says : (refusal : Refusal) → IsWhy old new (VerifyRefuses words old new) refusal → TellsRefusal err refusal status → IsSaid v old.files old.kept status
@@ -176,9 +179,9 @@ module _ (law : IsOneCommand) (words : List (List ℕ)) (old new : World) (v : V
         (verdict_says files w.verification old.kept h.repo h.given h.report w.verdict some status h.fetched.given_are h.is well.0))
     ends_say files (Err refusal) ends well refused = why_says refusal ends.refusal refused
 
-    pub complete_verify : FileLaw → (ending : Ending) → Performs words old new ending →
+    pub complete_verify : FileLaw → (input : Fed) (ending : Ending) → Performs words old new input ending →
         IfOk ending (λ some. (status ≡ well_status some) × SaysNothing err) → IfErr ending (λ refusal. TellsRefusal err refusal status) → IsSaid v old.files old.kept status
-    complete_verify files ending performs well refused = ends_say files ending (verify_ends words old new v asks ending performs) well refused
+    complete_verify files input ending performs well refused = ends_say files ending (verify_ends words old new input v asks ending performs) well refused
 
 -- ---- what a scan left is accepted
 
@@ -307,6 +310,8 @@ module _ (law : IsOneCommand) (accepted : AcceptedLaw) (words : List (List ℕ))
   refused_left OutputFailed why tells = absurd (out why.1)
   refused_left NoMemory why tells = inr (five_only status (or_five err NoMemory status tells))
   refused_left BadWords why tells = absurd why
+  refused_left InputFailed why tells = absurd why
+  refused_left (BadCommand number) why tells = absurd why
   refused_left (Spent name) why tells = absurd why
 
   why_left : (refusal : Refusal) → IsWhy old new (VerifyRefuses words old new) refusal → TellsRefusal err refusal status → (status ≡ 0) ⊎ (status ≡ 5)
@@ -323,6 +328,6 @@ module _ (law : IsOneCommand) (accepted : AcceptedLaw) (words : List (List ℕ))
       inl (well.0 ∙ (w.status_is ∙ ap well_status (accepted_status _ w.verdict may)))
   ends_left (Err refusal) ends well refused = why_left refusal ends.refusal refused
 
-  pub accepts_scans : (ending : Ending) → Performs words old new ending →
+  pub accepts_scans : (input : Fed) (ending : Ending) → Performs words old new input ending →
       IfOk ending (λ some. (status ≡ well_status some) × SaysNothing err) → IfErr ending (λ refusal. TellsRefusal err refusal status) → (status ≡ 0) ⊎ (status ≡ 5)
-  accepts_scans ending performs well refused = ends_left ending (verify_ends words old new v asks ending performs) well refused
+  accepts_scans input ending performs well refused = ends_left ending (verify_ends words old new input v asks ending performs) well refused

@@ -3,7 +3,7 @@ use Rattle.std.specs.Prelude.{◌≡◌, ℕ, nat_lt, List, [], ◌∷◌, ◌++
 use Rattle.gv_base.specs.Causes.{Rose}
 use Rattle.gv_base.specs.Outside.{gains}
 use Rattle.gvis.specs.declared.refusal.Refusal.{Refusal}
-use Rattle.gvis.specs.declared.refusal.Refusal.TheVariants.{BadWords, TreeFailed, StoreFailed, OutputFailed, Spent, NoMemory, NotARepository, Limit}
+use Rattle.gvis.specs.declared.refusal.Refusal.TheVariants.{BadWords, TreeFailed, StoreFailed, OutputFailed, Spent, NoMemory, NotARepository, Limit, InputFailed, BadCommand}
 
 -- 0 without reports, 1 with some
 abbrev pub well_status : Bool → ℕ
@@ -18,10 +18,12 @@ refusal_status (Spent name) = 4
 refusal_status NoMemory = 5
 refusal_status (NotARepository path) = 6
 refusal_status (Limit place number) = 7
+refusal_status InputFailed = 3
+refusal_status (BadCommand number) = 8
 
 -- no run ends with another status
 abbrev pub is_status : ℕ → Bool
-is_status status = nat_lt status 8
+is_status status = nat_lt status 9
 
 abbrev pub refusal_text : Refusal → List ℕ
 refusal_text BadWords = codes "gvis: bad command line"
@@ -32,6 +34,8 @@ refusal_text (Spent name) = codes "gvis: budget spent: " ++ name
 refusal_text NoMemory = codes "gvis: out of memory"
 refusal_text (NotARepository path) = codes "gvis: not a repository: " ++ path
 refusal_text (Limit place number) = codes "gvis: limit: " ++ (place ++ (codes " " ++ decimal number))
+refusal_text InputFailed = codes "gvis: fault: input"
+refusal_text (BadCommand number) = codes "gvis: bad script: command " ++ decimal number
 
 -- with its line feed
 abbrev pub refusal_line : Refusal → List ℕ

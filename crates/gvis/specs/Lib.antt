@@ -7,6 +7,8 @@ pub mod Scan
 pub mod Run
 pub mod Verify
 pub mod Summary
+pub mod Session
 pub mod Performs
 pub mod ScanSteps
 pub mod VerifySteps
+pub mod SessionSteps

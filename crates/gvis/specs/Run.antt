@@ -12,6 +12,7 @@ use Rattle.gv_cert.specs.File.{ReadsFile, file_bytes}
 use Rattle.gv_cert.specs.Known.{KnownRecord}
 use Rattle.gv_load.specs.declared.faults.LoadFault.TheVariants as loads
 use Rattle.gv_load.specs.declared.loading.Repo.{Repo}
+use Rattle.gv_report.specs.declared.options.Options.{Options}
 use Rattle.gv_checks.specs.Certs.{AreCerts, Cert, HasBacked, cert_record, first_uses}
 use Rattle.gv_checks.specs.Limits.{IsWithin}
 use Rattle.gv_checks.specs.Queries.{Query, gates_of, queries}
@@ -21,7 +22,7 @@ use Rattle.gv_checks.specs.declared.names.QueryName.{QueryName}
 use Rattle.gv_logic.specs.Circuits.{Circuit, IsCircuit}
 use Rattle.gvis.specs.declared.asking.Asked.{Asked}
 use Rattle.gvis.specs.declared.refusal.Refusal.{Refusal}
-use Rattle.gvis.specs.declared.refusal.Refusal.TheVariants.{BadWords, TreeFailed, StoreFailed, OutputFailed, Spent, NoMemory, NotARepository, Limit}
+use Rattle.gvis.specs.declared.refusal.Refusal.TheVariants.{BadWords, TreeFailed, StoreFailed, OutputFailed, Spent, NoMemory, NotARepository, Limit, InputFailed, BadCommand}
 use Rattle.gvis.specs.Asking.{AsksFor}
 use Rattle.gvis.specs.Fetching.{IsGiven}
 use Rattle.gvis.specs.Endings.{GainsFront}
@@ -180,16 +181,16 @@ pub record StoppedBehind (words : List (List ℕ)) (old new : World) (Why : (a :
   pub why : Why asked repo certs
 
 -- the query at which the budget is spent, of which no given record is backed, and that query's name
-pub record IsSpentAt (told : Option FileMap) (a : Asked) (given : List KnownRecord) (text : List ℕ) : Type 0 where
+pub record IsSpentAt (told : Option FileMap) (options : Options) (given : List KnownRecord) (text : List ℕ) : Type 0 where
   pub repo : Repo
   pub name : QueryName
   pub sets : List (List ℕ)
-  pub unjudged : IsUnjudged told a.options given repo (judges.Spent name sets)
+  pub unjudged : IsUnjudged told options given repo (judges.Spent name sets)
   pub text_is : text ≡ name_text repo name
 
 -- a limit of loading is passed, or one of a query
-abbrev pub IsPastLimit : Option FileMap → Asked → (given : List KnownRecord) → (place : List ℕ) → (number : ℕ) → Type 0
-IsPastLimit told a given place number = IsUnloaded told (loads.Limit place number) ⊎ ((repo : Repo) × IsUnjudged told a.options given repo (judges.Limit place number))
+abbrev pub IsPastLimit : Option FileMap → Options → (given : List KnownRecord) → (place : List ℕ) → (number : ℕ) → Type 0
+IsPastLimit told options given place number = IsUnloaded told (loads.Limit place number) ⊎ ((repo : Repo) × IsUnjudged told options given repo (judges.Limit place number))
 
 -- the store was not replaced, and whatever became of that path, nothing was written
 abbrev pub UnkeptBy : World → World → Asked → Type 0
@@ -202,15 +203,17 @@ WroteFront old new a repo certs = Keeps a certs old new × GainsFront old.out ne
 -- when a scan is refused so, and what it leaves then
 abbrev pub ScanRefuses : List (List ℕ) → World → World → Refusal → Type 0
 ScanRefuses words old new BadWords = ⊥
+ScanRefuses words old new InputFailed = ⊥
+ScanRefuses words old new (BadCommand number) = ⊥
 ScanRefuses words old new (TreeFailed path) = Stopped words old new (λ a given. Rose old.tree_faults new.tree_faults × SameSteps old new)
 ScanRefuses words old new (StoreFailed path) =
     Unfetched words old new (λ a. (path ≡ a.file) × Rose old.store_faults new.store_faults)
     ⊎ StoppedBehind words old new (λ a repo certs. (path ≡ a.file) × (Rose old.store_faults new.store_faults × UnkeptBy old new a))
 ScanRefuses words old new OutputFailed = StoppedBehind words old new (λ a repo certs. Rose old.out_faults new.out_faults × WroteFront old new a repo certs)
-ScanRefuses words old new (Spent text) = Stopped words old new (λ a given. SameTree old new × IsSpentAt old.files a given text)
+ScanRefuses words old new (Spent text) = Stopped words old new (λ a given. SameTree old new × IsSpentAt old.files a.options given text)
 ScanRefuses words old new NoMemory =
     Unfetched words old new (λ a. Unit {0})
     ⊎ (Stopped words old new (λ a given. Unit {0})
     ⊎ StoppedBehind words old new (λ a repo certs. UnkeptBy old new a ⊎ WroteFront old new a repo certs))
 ScanRefuses words old new (NotARepository path) = Stopped words old new (λ a given. SameTree old new × (SameSteps old new × IsUnloaded old.files (loads.NotARepository path)))
-ScanRefuses words old new (Limit place number) = Stopped words old new (λ a given. SameTree old new × IsPastLimit old.files a given place number)
+ScanRefuses words old new (Limit place number) = Stopped words old new (λ a given. SameTree old new × IsPastLimit old.files a.options given place number)

@@ -24,7 +24,7 @@ use Rattle.gv_checks.specs.declared.names.QueryName.{QueryName}
 use Rattle.gvis.specs.declared.answering.Answers.{Answers}
 use Rattle.gvis.specs.declared.asking.Asked.{Asked}
 use Rattle.gvis.specs.declared.refusal.Refusal.{Refusal}
-use Rattle.gvis.specs.declared.refusal.Refusal.TheVariants.{BadWords, TreeFailed, StoreFailed, OutputFailed, Spent, NoMemory, NotARepository, Limit}
+use Rattle.gvis.specs.declared.refusal.Refusal.TheVariants.{BadWords, TreeFailed, StoreFailed, OutputFailed, Spent, NoMemory, NotARepository, Limit, InputFailed, BadCommand}
 use Rattle.gvis.specs.Endings.{GainsFront, well_status}
 use Rattle.gvis.specs.Naming.{name_text}
 use Rattle.gvis.specs.Run.{AreAnswered, AreCounted, IsPastLimit, IsSpentAt, Keeps, SameSteps, SameTree, UnkeptBy, Untouched, World, WroteFront, certs_file}
@@ -39,6 +39,8 @@ JudgeCause options given repo (Spent text) = (name : QueryName) × (sets : List 
 JudgeCause options given repo (Limit place number) = limits.Refuses options.budget given (queries options repo) (judges.Limit place number)
 JudgeCause options given repo NoMemory = Unit {0}
 JudgeCause options given repo BadWords = ⊥
+JudgeCause options given repo InputFailed = ⊥
+JudgeCause options given repo (BadCommand number) = ⊥
 JudgeCause options given repo (TreeFailed path) = ⊥
 JudgeCause options given repo (StoreFailed path) = ⊥
 JudgeCause options given repo OutputFailed = ⊥
@@ -65,6 +67,8 @@ ReadCause told before now (NotARepository path) = (now ≡ before) × IsUnloaded
 ReadCause told before now (Limit place number) = (now ≡ before) × IsUnloaded told (loads.Limit place number)
 ReadCause told before now NoMemory = Unit {0}
 ReadCause told before now BadWords = ⊥
+ReadCause told before now InputFailed = ⊥
+ReadCause told before now (BadCommand number) = ⊥
 ReadCause told before now (StoreFailed path) = ⊥
 ReadCause told before now OutputFailed = ⊥
 ReadCause told before now (Spent text) = ⊥
@@ -84,10 +88,12 @@ reading told before now old new = record { told = told; before = before; now = n
 abbrev pub AnswerCause : Asked → (given : List KnownRecord) → Read → Refusal → Type 0
 AnswerCause a given r (TreeFailed path) = Rose r.before r.now × (r.new ≡ r.old)
 AnswerCause a given r (NotARepository path) = (r.now ≡ r.before) × ((r.new ≡ r.old) × IsUnloaded r.told (loads.NotARepository path))
-AnswerCause a given r (Limit place number) = (r.now ≡ r.before) × IsPastLimit r.told a given place number
-AnswerCause a given r (Spent text) = (r.now ≡ r.before) × IsSpentAt r.told a given text
+AnswerCause a given r (Limit place number) = (r.now ≡ r.before) × IsPastLimit r.told a.options given place number
+AnswerCause a given r (Spent text) = (r.now ≡ r.before) × IsSpentAt r.told a.options given text
 AnswerCause a given r NoMemory = Unit {0}
 AnswerCause a given r BadWords = ⊥
+AnswerCause a given r InputFailed = ⊥
+AnswerCause a given r (BadCommand number) = ⊥
 AnswerCause a given r (StoreFailed path) = ⊥
 AnswerCause a given r OutputFailed = ⊥
 
@@ -105,6 +111,8 @@ abbrev pub KeepCause : (path : List ℕ) → ℕ → ℕ → Refusal → Type 0
 KeepCause file before now (StoreFailed path) = (path ≡ file) × Rose before now
 KeepCause file before now NoMemory = Unit {0}
 KeepCause file before now BadWords = ⊥
+KeepCause file before now InputFailed = ⊥
+KeepCause file before now (BadCommand number) = ⊥
 KeepCause file before now (TreeFailed path) = ⊥
 KeepCause file before now OutputFailed = ⊥
 KeepCause file before now (Spent text) = ⊥
@@ -116,6 +124,8 @@ abbrev pub WriteCause : ℕ → ℕ → Refusal → Type 0
 WriteCause before now OutputFailed = Rose before now
 WriteCause before now NoMemory = Unit {0}
 WriteCause before now BadWords = ⊥
+WriteCause before now InputFailed = ⊥
+WriteCause before now (BadCommand number) = ⊥
 WriteCause before now (TreeFailed path) = ⊥
 WriteCause before now (StoreFailed path) = ⊥
 WriteCause before now (Spent text) = ⊥
@@ -161,6 +171,8 @@ LeaveCause path answers w (StoreFailed place) = (place ≡ path) × (Rose w.kept
 LeaveCause path answers w OutputFailed = IsKept path answers.file w × (Rose w.out_before w.out_now × GainsFront w.out w.out' answers.text)
 LeaveCause path answers w NoMemory = IsUnkept path w ⊎ (IsKept path answers.file w × GainsFront w.out w.out' answers.text)
 LeaveCause path answers w BadWords = ⊥
+LeaveCause path answers w InputFailed = ⊥
+LeaveCause path answers w (BadCommand number) = ⊥
 LeaveCause path answers w (TreeFailed place) = ⊥
 LeaveCause path answers w (Spent text) = ⊥
 LeaveCause path answers w (NotARepository place) = ⊥
@@ -178,13 +190,15 @@ pub record HasLeft (path : List ℕ) (answers : Answers) (w : Written) (some : B
 -- a refusal before or behind the answers
 abbrev pub Stops : Asked → (given : List KnownRecord) → World → World → Refusal → Type 0
 Stops a given old new BadWords = ⊥
+Stops a given old new InputFailed = ⊥
+Stops a given old new (BadCommand number) = ⊥
 Stops a given old new (TreeFailed path) = Untouched old new × (Rose old.tree_faults new.tree_faults × SameSteps old new)
 Stops a given old new (StoreFailed path) = (repo : Repo) × (certs : List Cert) × AreAnswered a given old new repo certs × ((path ≡ a.file) × (Rose old.store_faults new.store_faults × UnkeptBy old new a))
 Stops a given old new OutputFailed = (repo : Repo) × (certs : List Cert) × AreAnswered a given old new repo certs × (Rose old.out_faults new.out_faults × WroteFront old new a repo certs)
-Stops a given old new (Spent text) = Untouched old new × (SameTree old new × IsSpentAt old.files a given text)
+Stops a given old new (Spent text) = Untouched old new × (SameTree old new × IsSpentAt old.files a.options given text)
 Stops a given old new NoMemory = Untouched old new ⊎ ((repo : Repo) × (certs : List Cert) × AreAnswered a given old new repo certs × (UnkeptBy old new a ⊎ WroteFront old new a repo certs))
 Stops a given old new (NotARepository path) = Untouched old new × (SameTree old new × (SameSteps old new × IsUnloaded old.files (loads.NotARepository path)))
-Stops a given old new (Limit place number) = Untouched old new × (SameTree old new × IsPastLimit old.files a given place number)
+Stops a given old new (Limit place number) = Untouched old new × (SameTree old new × IsPastLimit old.files a.options given place number)
 
 pub record RootReports (a : Asked) (given : List KnownRecord) (old new : World) (status : ℕ) : Type 0 where
   pub repo : Repo

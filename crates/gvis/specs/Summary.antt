@@ -11,7 +11,7 @@ use Rattle.gv_words.specs.Command.{settings, settings_of}
 use Rattle.gv_checks.specs.Queries.{queries}
 use Rattle.gv_checks.specs.RepoReports.{scan_text}
 use Rattle.gvis.specs.declared.refusal.Refusal.{Refusal}
-use Rattle.gvis.specs.declared.refusal.Refusal.TheVariants.{BadWords, TreeFailed, StoreFailed, OutputFailed, Spent, NoMemory, NotARepository, Limit}
+use Rattle.gvis.specs.declared.refusal.Refusal.TheVariants.{BadWords, TreeFailed, StoreFailed, OutputFailed, Spent, NoMemory, NotARepository, Limit, InputFailed, BadCommand}
 use Rattle.gvis.specs.Asking.{AsksForDemo}
 use Rattle.gvis.specs.Endings.{GainsFront}
 use Rattle.gvis.specs.Run.{SameOut, SameStore, SameTree, World}
@@ -73,6 +73,8 @@ abbrev pub DemoRefuses : List (List ℕ) → World → World → Refusal → Typ
 DemoRefuses words old new OutputFailed = CutsSummary words old new × Rose old.out_faults new.out_faults
 DemoRefuses words old new NoMemory = NoSummary words old new ⊎ CutsSummary words old new
 DemoRefuses words old new BadWords = ⊥
+DemoRefuses words old new InputFailed = ⊥
+DemoRefuses words old new (BadCommand number) = ⊥
 DemoRefuses words old new (TreeFailed path) = ⊥
 DemoRefuses words old new (StoreFailed path) = ⊥
 DemoRefuses words old new (Spent name) = ⊥

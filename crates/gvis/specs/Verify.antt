@@ -18,7 +18,7 @@ use Rattle.gv_checks.specs.declared.recalled.RecallFault.TheVariants as recallin
 use Rattle.gv_verify.specs.Verifying.{IsAccepted, IsOtherText}
 use Rattle.gvis.specs.declared.asking.Verification.{Verification}
 use Rattle.gvis.specs.declared.refusal.Refusal.{Refusal}
-use Rattle.gvis.specs.declared.refusal.Refusal.TheVariants.{BadWords, TreeFailed, StoreFailed, OutputFailed, Spent, NoMemory, NotARepository, Limit}
+use Rattle.gvis.specs.declared.refusal.Refusal.TheVariants.{BadWords, TreeFailed, StoreFailed, OutputFailed, Spent, NoMemory, NotARepository, Limit, InputFailed, BadCommand}
 use Rattle.gvis.specs.declared.verdict.Verdict.{Verdict}
 use Rattle.gvis.specs.declared.verdict.Verdict.TheVariants.{Accepted, NotBacked, OtherText}
 use Rattle.gvis.specs.Asking.{AsksToVerify}
@@ -125,6 +125,8 @@ VerifyRefuses words old new (Limit place number) =
 VerifyRefuses words old new OutputFailed = CutsVerdict words old new × Rose old.out_faults new.out_faults
 VerifyRefuses words old new NoMemory = NoVerdict words old new (λ v. Unit {0}) ⊎ CutsVerdict words old new
 VerifyRefuses words old new BadWords = ⊥
+VerifyRefuses words old new InputFailed = ⊥
+VerifyRefuses words old new (BadCommand number) = ⊥
 VerifyRefuses words old new (Spent name) = ⊥
 
 -- ---- where nothing outside fails

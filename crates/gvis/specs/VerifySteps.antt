@@ -13,7 +13,7 @@ use Rattle.gv_checks.specs.Recalled.{IsNotRecalled}
 use Rattle.gv_checks.specs.declared.recalled.RecallFault.TheVariants as recalling
 use Rattle.gvis.specs.declared.asking.Verification.{Verification}
 use Rattle.gvis.specs.declared.refusal.Refusal.{Refusal}
-use Rattle.gvis.specs.declared.refusal.Refusal.TheVariants.{BadWords, TreeFailed, StoreFailed, OutputFailed, Spent, NoMemory, NotARepository, Limit}
+use Rattle.gvis.specs.declared.refusal.Refusal.TheVariants.{BadWords, TreeFailed, StoreFailed, OutputFailed, Spent, NoMemory, NotARepository, Limit, InputFailed, BadCommand}
 use Rattle.gvis.specs.declared.verdict.Verdict.{Verdict}
 use Rattle.gvis.specs.Endings.{GainsFront, well_status}
 use Rattle.gvis.specs.Run.{SameOut, SameSteps, SameTree, World}
@@ -25,6 +25,8 @@ abbrev pub TakeCause : Verification → ℕ → ℕ → Refusal → Type 0
 TakeCause v before now (StoreFailed path) = ((path ≡ v.certs) ⊎ (path ≡ v.report)) × Rose before now
 TakeCause v before now NoMemory = Unit {0}
 TakeCause v before now BadWords = ⊥
+TakeCause v before now InputFailed = ⊥
+TakeCause v before now (BadCommand number) = ⊥
 TakeCause v before now (TreeFailed path) = ⊥
 TakeCause v before now OutputFailed = ⊥
 TakeCause v before now (Spent text) = ⊥
@@ -36,6 +38,8 @@ abbrev pub HoldCause : Options → (given : List KnownRecord) → Repo → Refus
 HoldCause options given repo (Limit place number) = IsNotRecalled given (queries options repo) (recalling.Limit place number)
 HoldCause options given repo NoMemory = Unit {0}
 HoldCause options given repo BadWords = ⊥
+HoldCause options given repo InputFailed = ⊥
+HoldCause options given repo (BadCommand number) = ⊥
 HoldCause options given repo (TreeFailed path) = ⊥
 HoldCause options given repo (StoreFailed path) = ⊥
 HoldCause options given repo OutputFailed = ⊥
@@ -84,6 +88,8 @@ FindCause v s (NotARepository path) = (s.store_now ≡ s.store_before) × ((s.tr
 FindCause v s (Limit place number) = (s.store_now ≡ s.store_before) × ((s.tree_now ≡ s.tree_before) × (IsUnloaded s.told (loads.Limit place number) ⊎ IsPastAt v s.told s.kept place number))
 FindCause v s NoMemory = Unit {0}
 FindCause v s BadWords = ⊥
+FindCause v s InputFailed = ⊥
+FindCause v s (BadCommand number) = ⊥
 FindCause v s OutputFailed = ⊥
 FindCause v s (Spent text) = ⊥
 
@@ -113,6 +119,8 @@ RootStops v old new (Limit place number) =
 RootStops v old new OutputFailed = RootCut v old new × Rose old.out_faults new.out_faults
 RootStops v old new NoMemory = SameOut old new ⊎ RootCut v old new
 RootStops v old new BadWords = ⊥
+RootStops v old new InputFailed = ⊥
+RootStops v old new (BadCommand number) = ⊥
 RootStops v old new (Spent text) = ⊥
 
 pub record VerifiesRoot (v : Verification) (old new : World) (ending : Result Bool Refusal) : Type 0 where

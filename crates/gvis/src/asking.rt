@@ -33,6 +33,15 @@ pub struct Verification {
     pub options: Options,
 }
 
+/// A session that is asked for.
+#[derive(Drop)]
+pub struct Sitting {
+    /// The folder of the repository.
+    pub root: Text,
+    /// What is reported and how.
+    pub options: Options,
+}
+
 /// What is asked for.
 #[derive(Drop)]
 pub enum Job {
@@ -40,12 +49,14 @@ pub enum Job {
     Scan { asked: Asked },
     /// To hold a report against certificates.
     Verify { verification: Verification },
+    /// A session.
+    Session { sitting: Sitting },
     /// The demo of a number.
     Demo { number: u64 },
 }
 
-/// What the words ask for; none exactly where they are no command, or one that isn't there yet.
-#[tactic(auto, using(crate::proofs::AskingLemmas::no_job))]
+/// What the words ask for; none exactly where they are no command.
+#[tactic(auto, using(crate::proofs::AskingLemmas::no_command))]
 pub(crate) fn job_of(alloc: Global, words: &Texts) -> Result<Option<Job>, NoMemory>
     ensures { IfOk result (λ job. MatchOption job (is_job words.now ≡ false) (IsJob words.now)) }
 {
@@ -81,7 +92,9 @@ pub(crate) fn job_of(alloc: Global, words: &Texts) -> Result<Option<Job>, NoMemo
                 options,
             },
         })),
-        Some(Command::Session { .. }) => Ok(None),
+        Some(Command::Session { root, options }) => Ok(Some(Job::Session {
+            sitting: Sitting { root, options },
+        })),
         Some(Command::Demo { number }) => Ok(Some(Job::Demo { number })),
     }
 }

@@ -15,6 +15,7 @@ mod refusal;
 #[cfg(test)]
 mod refusal_tests;
 mod replacing;
+mod replying;
 #[cfg(test)]
 mod report_tests;
 #[cfg(test)]
@@ -23,6 +24,9 @@ mod rescan_tests;
 mod run_script;
 mod running;
 mod scanning;
+mod serving;
+#[cfg(test)]
+mod session_tests;
 mod summing;
 mod telling;
 mod verdict;

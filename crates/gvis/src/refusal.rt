@@ -20,6 +20,10 @@ pub enum Refusal {
     NotARepository { path: Text },
     /// A limit, with its number, is passed at a place.
     Limit { place: Text, number: u64 },
+    /// The input failed.
+    InputFailed,
+    /// The command of this number, from 1, is bad.
+    BadCommand { number: u32 },
 }
 
 impl From<NoMemory> for Refusal {

@@ -212,7 +212,7 @@ $ scan R --certs C --keywords None\n\
 $ verify R --certs C --report P --fresh\n\
 ! gvis: bad command line\n\
 = 2\n\
-$ session R\n\
+$ session R --certs C\n\
 ! gvis: bad command line\n\
 = 2\n\
 $ demo 01\n\

@@ -15,8 +15,8 @@ use std::sync::ledger::Blank;
 // a file and each `|` behind it is a line of it; `%CATEGORY NAME VERSION` begins an entry with the digest of its ebuild,
 // which is empty; `new` takes all files away. `$` has the words, with one space between; without it they are
 // `scan R --certs C` with the keywords of classes that can't be met. `m`, `t`, `s`, `o` and
-// `e` give the bytes that a sink takes in a call and the numbers of the calls that fail. `>` is a line that stands on
-// out and `!` one on err; `~` at its end says that it has no line feed. `f` has the number of bytes that the file `C`
+// `e` give the bytes that a sink takes in a call and the numbers of the calls that fail, and `j` that of the input. `<` is a
+// line of the input, `>` one that stands on out and `!` one on err; `~` at its end says that it has no line feed. `f` has the number of bytes that the file `C`
 // has afterwards. `= STATUS` runs, and forgets all but the files.
 #[derive(Drop)]
 pub(crate) struct Script {
@@ -30,6 +30,9 @@ pub(crate) struct Script {
     file_bytes: u32,
     out_fails: u32,
     err_fails: u32,
+    input_fails: u32,
+    pub pieces: u32,
+    pub input: Text,
     pub out: Text,
     pub err: Text,
 }
@@ -61,6 +64,9 @@ pub(crate) fn begin<R: Abort>(rt: &R, alloc: Global) -> Script {
         file_bytes: 0,
         out_fails: 0,
         err_fails: 0,
+        input_fails: 0,
+        pieces: 4096,
+        input: text(rt, alloc, b""),
         out: text(rt, alloc, b""),
         err: text(rt, alloc, b""),
     }
@@ -182,6 +188,21 @@ pub(crate) fn perform<R: Abort>(rt: &R, alloc: Global, lines: &[u8], want: u32) 
     assert_eq!(rt; perform_on(rt, alloc, &mut script, lines), want);
 }
 
+/// The same behind the lines of a repository, with an input that gives so many bytes a call.
+pub(crate) fn perform_in_pieces<R: Abort>(
+    rt: &R,
+    alloc: Global,
+    repository: &[u8],
+    lines: &[u8],
+    pieces: u32,
+    want: u32,
+) {
+    let mut script = begin(rt, alloc);
+    script.pieces = pieces;
+    assert_eq!(rt; perform_on(rt, alloc, &mut script, repository), 0);
+    assert_eq!(rt; perform_on(rt, alloc, &mut script, lines), want);
+}
+
 /// What lines without a run say of one.
 pub(crate) fn scripted<R: Abort>(rt: &R, alloc: Global, lines: &[u8]) -> Script {
     let mut script = begin(rt, alloc);
@@ -204,7 +225,7 @@ fn told<R: Abort>(rt: &R, alloc: Global, name: &Text, status: u32, err: &[u8], o
     told
 }
 
-// All but the files and the name.
+// All but the files, the name and the pieces.
 fn forget<R: Abort>(rt: &R, alloc: Global, script: &mut Script) {
     script.path = text(rt, alloc, b"");
     script.words = text(rt, alloc, WORDS);
@@ -214,6 +235,8 @@ fn forget<R: Abort>(rt: &R, alloc: Global, script: &mut Script) {
     script.file_bytes = 0;
     script.out_fails = 0;
     script.err_fails = 0;
+    script.input_fails = 0;
+    script.input = text(rt, alloc, b"");
     script.out = text(rt, alloc, b"");
     script.err = text(rt, alloc, b"");
 }
@@ -263,6 +286,7 @@ fn take<R: Abort>(rt: &R, alloc: Global, script: &mut Script, line: &[u8]) {
         [b'%', words @ ..] => begin_entry_of(rt, alloc, script, words),
         [b'|', rest @ ..] => add_line(rt, alloc, script, rest),
         [b'$', b' ', rest @ ..] => script.words = text(rt, alloc, rest),
+        [b'<', b' ', rest @ ..] => add_output(rt, &mut script.input, rest),
         [b'>', b' ', rest @ ..] => add_output(rt, &mut script.out, rest),
         [b'!', b' ', rest @ ..] => add_output(rt, &mut script.err, rest),
         [b'm', b' ', digits @ ..] => script.most = number(digits),
@@ -271,6 +295,7 @@ fn take<R: Abort>(rt: &R, alloc: Global, script: &mut Script, line: &[u8]) {
         [b'f', b' ', digits @ ..] => script.file_bytes = number(digits),
         [b'o', b' ', digits @ ..] => script.out_fails = number(digits),
         [b'e', b' ', digits @ ..] => script.err_fails = number(digits),
+        [b'j', b' ', digits @ ..] => script.input_fails = number(digits),
         _ => {}
     }
 }
@@ -323,7 +348,11 @@ fn run_on<L: Ledger, R: Abort>(
 {
     let words = split(rt, alloc, script.words.bytes());
     let mut tree = tree_of(rt, alloc, script);
-    let mut input = MemSource::new(text(rt, alloc, b""), 1, Calls::new(alloc));
+    let mut input = MemSource::new(
+        text(rt, alloc, script.input.bytes()),
+        script.pieces.max(1),
+        calls(rt, alloc, script.input_fails),
+    );
     let mut out = sink_of(rt, alloc, script.most, script.out_fails);
     let mut err = sink_of(rt, alloc, script.most, script.err_fails);
     let mut steps = Steps::<L>::open(blank);

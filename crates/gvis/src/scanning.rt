@@ -8,6 +8,7 @@ ghost use Rattle.gvis.specs.Endings.{GainsFront};
 ghost use Rattle.gvis.specs.Asking.{AsksFor};
 ghost use Rattle.gvis.specs.Performs.{Performs};
 ghost use Rattle.gvis.specs.Run.{world};
+ghost use Rattle.gvis.specs.Session.{Fed};
 ghost use Rattle.gvis.specs.ScanSteps.{HasLeft, KeepCause, LeaveCause, ScansRoot, WriteCause, writing};
 
 use crate::Refusal;
@@ -44,10 +45,10 @@ pub(crate) fn scan<T: Tree, K: Store, S: Sink, L: Ledger>(
     out: &mut S,
     steps: &mut Steps<L>,
 ) -> Result<bool, Refusal>
-    ensures { (words : List (List ℕ)) → AsksFor words asked.now → Performs words
+    ensures { (words : List (List ℕ)) (input : Fed) → AsksFor words asked.now → Performs words
         (world (T.entered tree.old) (T.files tree.old) (T.faults tree.old) (K.files store.old) (K.faults store.old) (S.held out.old) (S.faults out.old) steps.old)
         (world (T.entered tree.new) (T.files tree.new) (T.faults tree.new) (K.files store.new) (K.faults store.new) (S.held out.new) (S.faults out.new) steps.new)
-        result }
+        input result }
 {
     tree.enter(alloc, &asked.root)?;
     let given = given(alloc, asked, store)?;

@@ -11,6 +11,7 @@ ghost use Rattle.gv_checks.specs.RepoReports.{scan_text};
 ghost use Rattle.gvis.specs.Asking.{AsksForDemo};
 ghost use Rattle.gvis.specs.Performs.{Performs};
 ghost use Rattle.gvis.specs.Run.{world};
+ghost use Rattle.gvis.specs.Session.{Fed};
 ghost use Rattle.gvis.specs.Summary.{IsSummary, line_count, summary_text};
 
 use crate::Refusal;
@@ -33,10 +34,10 @@ pub(crate) fn write_summary<S: Sink, L: Ledger>(
     out: &mut S,
     steps: &mut Steps<L>,
 ) -> Result<bool, Refusal>
-    ensures { (words : List (List ℕ)) (root : Option (List ℕ)) (files : Option FileMap) (tree_faults : ℕ) (kept : Option FileMap) (store_faults : ℕ) → AsksForDemo words number → Performs words
+    ensures { (words : List (List ℕ)) (input : Fed) (root : Option (List ℕ)) (files : Option FileMap) (tree_faults : ℕ) (kept : Option FileMap) (store_faults : ℕ) → AsksForDemo words number → Performs words
         (world root files tree_faults kept store_faults (S.held out.old) (S.faults out.old) steps.old)
         (world root files tree_faults kept store_faults (S.held out.new) (S.faults out.new) steps.new)
-        result }
+        input result }
 {
     let summary = summary_of(alloc, number, steps)?;
     write(out, &summary)?;

@@ -47,6 +47,8 @@ fn status(refusal: &Refusal) -> u8
         Refusal::NoMemory => 5,
         Refusal::NotARepository { .. } => 6,
         Refusal::Limit { .. } => 7,
+        Refusal::InputFailed => 3,
+        Refusal::BadCommand { .. } => 8,
     }
 }
 
@@ -71,6 +73,8 @@ fn append_refusal(alloc: Global, line: &mut Text, refusal: &Refusal) -> Result<(
         Refusal::NoMemory => line.append(b"gvis: out of memory"),
         Refusal::NotARepository { path } => append_place(line, b"gvis: not a repository: ", path),
         Refusal::Limit { place, number } => append_limit(alloc, line, place, *number),
+        Refusal::InputFailed => line.append(b"gvis: fault: input"),
+        Refusal::BadCommand { number } => append_command(alloc, line, *number),
     }
 }
 
@@ -97,4 +101,11 @@ fn append_limit(alloc: Global, line: &mut Text, place: &Text, number: u64) -> Re
 {
     let numbered = with_number(alloc, place, number)?;
     append_place(line, b"gvis: limit: ", &numbered)
+}
+
+fn append_command(alloc: Global, line: &mut Text, number: u32) -> Result<(), NoMemory>
+    ensures { OnOk result (line.new ≡ line.old ++ (codes "gvis: bad script: command " ++ decimal number)) }
+{
+    let digits = Text::of(alloc, number.to_string(alloc)?.as_bytes())?;
+    append_place(line, b"gvis: bad script: command ", &digits)
 }

@@ -6,6 +6,7 @@ ghost use Rattle.std.specs.Prelude.{◌≡◌, ◌≤◌, ℕ, List, IfOk, IfErr
 ghost use Rattle.gvis.specs.Asking.{AsksToVerify};
 ghost use Rattle.gvis.specs.Performs.{Performs};
 ghost use Rattle.gvis.specs.Run.{world};
+ghost use Rattle.gvis.specs.Session.{Fed};
 ghost use Rattle.gvis.specs.Verify.{AreFetched, IsVerdict};
 ghost use Rattle.gvis.specs.VerifySteps.{FindCause, HoldCause, IsFound, TakeCause, VerifiesRoot, seeking};
 
@@ -39,10 +40,10 @@ pub(crate) fn verify_report<T: Tree, K: Store, S: Sink, L: Ledger>(
     out: &mut S,
     steps: &mut Steps<L>,
 ) -> Result<bool, Refusal>
-    ensures { (words : List (List ℕ)) → AsksToVerify words verification.now → Performs words
+    ensures { (words : List (List ℕ)) (input : Fed) → AsksToVerify words verification.now → Performs words
         (world (T.entered tree.old) (T.files tree.old) (T.faults tree.old) (K.files store.old) (K.faults store.old) (S.held out.old) (S.faults out.old) steps.old)
         (world (T.entered tree.new) (T.files tree.new) (T.faults tree.new) (K.files store.new) (K.faults store.new) (S.held out.new) (S.faults out.new) steps.new)
-        result }
+        input result }
 {
     tree.enter(alloc, &verification.root)?;
     verify_root(alloc, verification, tree, store, out, steps)

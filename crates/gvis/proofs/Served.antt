@@ -1,0 +1,390 @@
+-- From reading and performing one command to a whole script.
+use Rattle.std.proofs.Common.{◌≡◌, ℕ, ◌+◌, ◌-◌, ◌≤◌, Bool, true, false, List, [], ◌∷◌, ◌++◌, length, Some, None, refl, sym, ap, subst, ◌∙◌, inl, inr, append_assoc, append-nil, length-append, arith}
+use Rattle.std.specs.Prelude.{Option, IfSome, IfErr, Result, Ok, Err, ◌⊎◌, codes}
+use Rattle.std.specs.Option.{option_map}
+use Rattle.gv_base.specs.FileMap.{FileMap}
+use Rattle.gv_base.specs.Outside.{gains}
+use Rattle.gv_edits.specs.Edits.{edited_told}
+use Rattle.gv_edits.specs.Pending.{whole}
+use Rattle.gv_edits.specs.Script.{Ending, Reading, Script, led_script, one_more, script_left, script_within, without_commands, Ended, Broken, Passed}
+use Rattle.gv_edits.specs.declared.command.Command.{Command}
+use Rattle.gv_edits.specs.declared.command.Command.TheVariants.{Put, Cut, Report, End}
+use Rattle.gv_edits.specs.declared.edit.Edit.{Edit}
+use Rattle.gv_edits.specs.declared.edit.Edit.TheVariants as edits
+use Rattle.gv_load.specs.declared.faults.LoadFault.TheVariants as loads
+use Rattle.gv_report.specs.declared.options.Options.{Options}
+use Rattle.gv_session.specs.Session.{State}
+use Rattle.gvis.specs.declared.refusal.Refusal.{Refusal}
+use Rattle.gvis.specs.declared.refusal.Refusal.TheVariants.{BadWords, TreeFailed, StoreFailed, OutputFailed, Spent, NoMemory, NotARepository, Limit, InputFailed, BadCommand}
+use Rattle.gvis.specs.Endings.{GainsFront}
+use Rattle.gvis.specs.Run.{IsPastLimit, IsSpentAt}
+use Rattle.gvis.specs.Scan.{IsUnloaded}
+use Rattle.gvis.specs.Session.{IsReport, Writes, edits_of, report_text}
+use Rattle.gvis.specs.SessionSteps.{AnswerCause, At, Begins, Cuts, DoCause, Does, Ends, Goes, Is, IsCut, IsTooMany, Left, NextCause, StepIs, StopCause, Stops, at, behind, leaving, writing}
+use Rattle.gvis.proofs.Gains.{gains-gains}
+
+pub gains_nothing : (held : Option (List ℕ)) → held ≡ gains held []
+gains_nothing None = refl
+gains_nothing (Some bytes) = ap Some (sym (append-nil bytes))
+
+-- ---- reading
+
+-- where as many commands were read as are allowed, the script is passed
+passed_bytes : (left : ℕ) (told : Option (List ℕ)) → left ≡ 0 → IfSome (option_map (script_within left) told) (λ s. s ≡ without_commands Passed)
+passed_bytes left None none = tt
+passed_bytes left (Some bytes) none = subst (λ n. script_within n bytes ≡ without_commands Passed) (sym none) refl
+
+passed : (r : Reading) (left : Option (List ℕ)) → r.read ≡ 1000000 → IfSome (script_left r left) (λ s. s ≡ without_commands Passed)
+unfolding script_left
+passed r left full = passed_bytes (1000000 - r.read) (whole r.taken left) (omega (arith, full))
+
+pub no_more : (r : Reading) (left : Option (List ℕ)) (before now : ℕ) (refusal : Refusal) → r.read ≡ 1000000 → now ≡ before → IsTooMany refusal → NextCause (script_left r left) r.read before now refusal
+no_more r left before now refusal full calm (inl is) = subst (NextCause (script_left r left) r.read before now) (sym is) (calm, (full, (refl, (refl, passed r left full))))
+no_more r left before now refusal full calm (inr is) = subst (NextCause (script_left r left) r.read before now) (sym is) tt
+
+-- ---- what commands write
+
+pub writes_behind : (options : Options) (told : Option FileMap) (es : List Edit) (done more : List Command) (text text' : List ℕ) →
+    Writes options told es done text → Writes options told (es ++ edits_of done) more text' → Writes options told es (done ++ more) (text ++ text')
+writes_behind options told es [] more text text' nothing writes =
+    subst (λ (t : List ℕ). Writes options told es more (t ++ text')) (sym nothing) (subst (λ (xs : List Edit). Writes options told xs more text') (append-nil es) writes)
+writes_behind options told es (Put path bytes ∷ cs) more text text' first writes =
+    writes_behind options told (es ++ edits.Put path bytes ∷ []) cs more text text' first
+    (subst (λ (xs : List Edit). Writes options told xs more text') (sym (append_assoc es (edits.Put path bytes ∷ []) (edits_of cs))) writes)
+writes_behind options told es (Cut path ∷ cs) more text text' first writes =
+    writes_behind options told (es ++ edits.Cut path ∷ []) cs more text text' first
+    (subst (λ (xs : List Edit). Writes options told xs more text') (sym (append_assoc es (edits.Cut path ∷ []) (edits_of cs))) writes)
+writes_behind options told es (Report ∷ cs) more text text' (report, is, rest, text_is, first) writes =
+    (report, is, rest ++ text', ap (λ (t : List ℕ). t ++ text') text_is ∙ append_assoc (report_text report) rest text', writes_behind options told es cs more rest text' first writes)
+writes_behind options told es (End ∷ cs) more text text' first writes = absurd first
+
+pub edits_behind : (done more : List Command) → edits_of (done ++ more) ≡ edits_of done ++ edits_of more
+edits_behind [] more = refl
+edits_behind (Put path bytes ∷ cs) more = ap (λ (es : List Edit). edits.Put path bytes ∷ es) (edits_behind cs more)
+edits_behind (Cut path ∷ cs) more = ap (λ (es : List Edit). edits.Cut path ∷ es) (edits_behind cs more)
+edits_behind (Report ∷ cs) more = edits_behind cs more
+edits_behind (End ∷ cs) more = edits_behind cs more
+
+-- ---- one command
+
+-- a script that a command which isn't `end` leads begins with it
+led_begins : (script rest : Option Script) (command : Command) → ((s : Script) → led_script command s ≡ one_more command s) → script ≡ option_map (led_script command) rest → Begins script (command ∷ [])
+led_begins script None command one is = subst (λ x. Begins x (command ∷ [])) (sym is) tt
+led_begins script (Some s) command one is = subst (λ x. Begins x (command ∷ [])) (sym is) (s.commands, s.ending, one s)
+
+led_behind : (script rest : Option Script) (command : Command) → ((s : Script) → led_script command s ≡ one_more command s) → script ≡ option_map (led_script command) rest
+    → script ≡ option_map (behind (command ∷ [])) rest
+led_behind script None command one is = is
+led_behind script (Some s) command one is = is ∙ ap Some (one s)
+
+led_end : (script rest : Option Script) → script ≡ option_map (led_script End) rest → Is script (End ∷ []) Ended
+led_end script None is = subst (λ x. Is x (End ∷ []) Ended) (sym is) tt
+led_end script (Some s) is = subst (λ x. Is x (End ∷ []) Ended) (sym is) refl
+
+begins_nothing : (script : Option Script) → Begins script []
+begins_nothing None = tt
+begins_nothing (Some s) = (s.commands, s.ending, refl)
+
+is_of : (script : Option Script) (ending : Ending) → IfSome script (λ s. s ≡ without_commands ending) → Is script [] ending
+is_of None ending is = tt
+is_of (Some s) ending is = is
+
+module _ (told : Option FileMap) (s : State) (script : Option Script) (read : ℕ) (tb ib im : ℕ) (o : Option (List ℕ)) (ob : ℕ) where
+  stops_here : (Why : List Command → Type 0) (tn n : ℕ) → Why [] → Stops told (at s script read o) (leaving tb tn ib n o ob ob) Why
+  stops_here Why tn n why = record { done = []; text = []; writes = refl; out = gains_nothing o; out_calm = refl; why = why }
+
+  none : read + 0 ≡ read
+  none = omega arith
+
+  -- no command was read
+  pub untaken : (refusal : Refusal) → NextCause script read ib im refusal → StopCause told (at s script read o) (leaving tb tb ib im o ob ob) refusal
+  untaken InputFailed cause = stops_here _ tb im (begins_nothing script, (refl, cause))
+  untaken (BadCommand number) cause = stops_here _ tb im (is_of script Broken cause.1.1, ((refl, cause.0), cause.1.0 ∙ ap (λ (n : ℕ). n + 1) (sym none)))
+  untaken (Limit place number) cause = stops_here _ tb im ((refl, cause.0), inr (is_of script Passed cause.1.1.1.1, (none ∙ cause.1.0, (cause.1.1.0, cause.1.1.1.0))))
+  untaken NoMemory cause = inl (stops_here _ tb im (begins_nothing script))
+  untaken BadWords cause = cause
+  untaken (TreeFailed path) cause = absurd cause
+  untaken (StoreFailed path) cause = cause
+  untaken OutputFailed cause = absurd cause
+  untaken (Spent text) cause = absurd cause
+  untaken (NotARepository path) cause = absurd cause
+
+  module _ (rest : Option Script) (calm : im ≡ ib) (tn : ℕ) (o' : Option (List ℕ)) (on : ℕ) where
+    abbrev start : At
+    start = at s script read o
+
+    abbrev left : Left
+    left = leaving tb tn ib im o' ob on
+
+    stops_still : (Why : List Command → Type 0) → o' ≡ o → on ≡ ob → Why [] → Stops told start left Why
+    stops_still Why out still why = record { done = []; text = []; writes = refl; out = out ∙ gains_nothing o; out_calm = still; why = why }
+
+    told_still : edited_told told s.edits ≡ edited_told told (s.edits ++ edits_of [])
+    told_still = ap (λ (es : List Edit). edited_told told es) (sym (append-nil s.edits))
+
+    cut_here : script ≡ option_map (led_script Report) rest → IsCut s told (writing tb tn o o' ob on) → Cuts told start left
+    cut_here led cut = record {
+      tree = cut.tree;
+      input = calm;
+      done = [];
+      script = led_begins script rest Report (λ x. refl) led;
+      text = [];
+      writes = refl;
+      report = cut.report;
+      is = subst (λ f. IsReport s.options f cut.report) told_still cut.is;
+      front = subst (λ h. GainsFront h o' (report_text cut.report)) (gains_nothing o) cut.front;
+    }
+
+    report_stops : script ≡ option_map (led_script Report) rest → (refusal : Refusal) → AnswerCause s told (writing tb tn o o' ob on) refusal → StopCause told start left refusal
+    report_stops led (TreeFailed path) cause = stops_still _ cause.0.0 cause.0.1 (led_begins script rest Report (λ x. refl) led, (calm, cause.1))
+    report_stops led (NotARepository path) cause =
+        stops_still _ cause.0.0 cause.0.1 (led_begins script rest Report (λ x. refl) led, ((cause.1.0, calm), subst (λ f. IsUnloaded f (loads.NotARepository path)) told_still cause.1.1))
+    report_stops led (Limit place number) cause =
+        stops_still _ cause.0.0 cause.0.1 ((cause.1.0, calm), inl (led_begins script rest Report (λ x. refl) led, subst (λ f. IsPastLimit f s.options [] place number) told_still cause.1.1))
+    report_stops led (Spent text) cause =
+        stops_still _ cause.0.0 cause.0.1 (led_begins script rest Report (λ x. refl) led, ((cause.1.0, calm), subst (λ f. IsSpentAt f s.options [] text) told_still cause.1.1))
+    report_stops led OutputFailed cause = (cut_here led cause.0, cause.1)
+    report_stops led NoMemory (inl same) = inl (stops_still _ same.0 same.1 (begins_nothing script))
+    report_stops led NoMemory (inr cut) = inr (cut_here led cut)
+    report_stops led BadWords cause = cause
+    report_stops led (StoreFailed path) cause = cause
+    report_stops led InputFailed cause = absurd cause
+    report_stops led (BadCommand number) cause = absurd cause
+
+    -- it wasn't done
+    pub undone : (command : Command) → script ≡ option_map (led_script command) rest → (refusal : Refusal) → DoCause told s command (writing tb tn o o' ob on) refusal → StopCause told start left refusal
+    undone (Put path bytes) led refusal cause = subst (StopCause told start left) (sym cause.0) (inl (stops_still _ cause.1.0 cause.1.1 (begins_nothing script)))
+    undone (Cut path) led refusal cause = subst (StopCause told start left) (sym cause.0) (inl (stops_still _ cause.1.0 cause.1.1 (begins_nothing script)))
+    undone Report led refusal cause = report_stops led refusal cause
+    undone End led refusal cause = absurd cause
+
+    pub undone_if : (command : Command) → script ≡ option_map (led_script command) rest → (result : Result Bool Refusal) → IfErr result (DoCause told s command (writing tb tn o o' ob on))
+        → IfErr result (StopCause told start left)
+    undone_if command led (Ok over) cause = tt
+    undone_if command led (Err refusal) cause = undone command led refusal cause
+
+    -- it was
+    module _ (s' : State) (read' : ℕ) (counted : read' ≡ read + 1) where
+      abbrev end : At
+      end = at s' rest read' o'
+
+      one_read : (command : Command) → read' ≡ read + length (command ∷ [])
+      one_read command = omega (arith, counted)
+
+      edited_once : (command : Command) (edit : Edit) → ((x : Script) → led_script command x ≡ one_more command x) → edits_of (command ∷ []) ≡ edit ∷ [] → Writes s.options told s.edits (command ∷ []) []
+          → script ≡ option_map (led_script command) rest → s' ≡ record { options = s.options; edits = s.edits ++ edit ∷ [] } → o' ≡ o → Goes told start end
+      edited_once command edit one is writes led state out = record {
+        done = command ∷ [];
+        text = [];
+        options = ap (λ (x : State). x.options) state;
+        edits = ap (λ (x : State). x.edits) state ∙ ap (λ (es : List Edit). s.edits ++ es) (sym is);
+        script = led_behind script rest command one led;
+        read = one_read command;
+        writes = writes;
+        out = out ∙ gains_nothing o;
+      }
+
+      pub stepped : (command : Command) → script ≡ option_map (led_script command) rest → (over : Bool) → Does told s command s' (writing tb tn o o' ob on) over → StepIs told start end left over
+      stepped (Put path bytes) led over does =
+          subst (StepIs told start end left) (sym does.0)
+          (edited_once (Put path bytes) (edits.Put path bytes) (λ x. refl) refl refl led does.1.0 does.1.1.1.0, (does.1.1.0, (calm, does.1.1.1.1)))
+      stepped (Cut path) led over does =
+          subst (StepIs told start end left) (sym does.0)
+          (edited_once (Cut path) (edits.Cut path) (λ x. refl) refl refl led does.1.0 does.1.1.1.0, (does.1.1.0, (calm, does.1.1.1.1)))
+      stepped Report led over does =
+          let a = does.1.1 in
+          subst (StepIs told start end left) (sym does.0) (
+            record {
+              done = Report ∷ [];
+              text = report_text a.report;
+              options = ap (λ (x : State). x.options) does.1.0;
+              edits = ap (λ (x : State). x.edits) does.1.0 ∙ sym (append-nil s.edits);
+              script = led_behind script rest Report (λ x. refl) led;
+              read = one_read Report;
+              writes = (a.report, a.is, [], sym (append-nil (report_text a.report)), refl);
+              out = a.out;
+            },
+            (a.tree, (calm, a.calm)),
+          )
+      stepped End led over does =
+          subst (StepIs told start end left) (sym does.0)
+          (record {
+            tree = does.1.1.0;
+            input = calm;
+            done = [];
+            script = led_end script rest led;
+            text = [];
+            writes = refl;
+            out = does.1.1.1.0 ∙ gains_nothing o;
+            out_calm = does.1.1.1.1;
+          })
+
+-- ---- from a point to a later one, and on
+
+script_behind : (d1 d2 : List Command) (script : Option Script) → option_map (behind d1) (option_map (behind d2) script) ≡ option_map (behind (d1 ++ d2)) script
+script_behind d1 d2 None = refl
+script_behind d1 d2 (Some s) = ap (λ (cs : List Command). Some (record { commands = cs; ending = s.ending })) (sym (append_assoc d1 d2 s.commands))
+
+is_behind : (done cs : List Command) (ending : Ending) (script rest : Option Script) → script ≡ option_map (behind done) rest → Is rest cs ending → Is script (done ++ cs) ending
+is_behind done cs ending script None led is = subst (λ x. Is x (done ++ cs) ending) (sym led) tt
+is_behind done cs ending script (Some s) led is =
+    subst (λ x. Is x (done ++ cs) ending) (sym led) (ap (λ (x : Script). behind done x) is)
+
+begins_behind : (done cs : List Command) (script rest : Option Script) → script ≡ option_map (behind done) rest → Begins rest cs → Begins script (done ++ cs)
+begins_behind done cs script None led begins = subst (λ x. Begins x (done ++ cs)) (sym led) tt
+begins_behind done cs script (Some s) led (more, ending, is) =
+    subst (λ x. Begins x (done ++ cs)) (sym led)
+    (more, ending, ap (λ (x : Script). behind done x) is ∙ ap (λ (xs : List Command). record { commands = xs; ending = ending }) (sym (append_assoc done cs more)))
+
+module _ (told : Option FileMap) (p q : At) (g : Goes told p q) where
+  edits_on : (done : List Command) → q.state.edits ++ edits_of done ≡ p.state.edits ++ edits_of (g.done ++ done)
+  edits_on done =
+      ap (λ (es : List Edit). es ++ edits_of done) g.edits
+      ∙ (append_assoc p.state.edits (edits_of g.done) (edits_of done) ∙ ap (λ (es : List Edit). p.state.edits ++ es) (sym (edits_behind g.done done)))
+
+  writes_on : (done : List Command) (text : List ℕ) → Writes q.state.options told q.state.edits done text → Writes p.state.options told p.state.edits (g.done ++ done) (g.text ++ text)
+  writes_on done text writes =
+      writes_behind p.state.options told p.state.edits g.done done g.text text g.writes
+      (subst (λ (es : List Edit). Writes p.state.options told es done text) g.edits (subst (λ (o : Options). Writes o told q.state.edits done text) g.options writes))
+
+  out_on : (text : List ℕ) → gains q.out text ≡ gains p.out (g.text ++ text)
+  out_on text = ap (λ h. gains h text) g.out ∙ gains-gains p.out g.text text
+
+  read_on : (done : List Command) → q.read + length done ≡ p.read + length (g.done ++ done)
+  read_on done = omega (arith, g.read, length-append g.done done)
+
+  pub goes_on : (r : At) → Goes told q r → Goes told p r
+  goes_on r h = record {
+    done = g.done ++ h.done;
+    text = g.text ++ h.text;
+    options = h.options ∙ g.options;
+    edits = h.edits ∙ edits_on h.done;
+    script = g.script ∙ (ap (λ x. option_map (behind g.done) x) h.script ∙ script_behind g.done h.done r.script);
+    read = h.read ∙ read_on h.done;
+    writes = writes_on h.done h.text h.writes;
+    out = h.out ∙ out_on h.text;
+  }
+
+  module _ (l : Left) where
+    pub goes_to_end : Ends told q l → Ends told p l
+    goes_to_end e = record {
+      tree = e.tree;
+      input = e.input;
+      done = g.done ++ e.done;
+      script = subst (λ (cs : List Command). Is p.script cs Ended) (sym (append_assoc g.done e.done (End ∷ []))) (is_behind g.done (e.done ++ End ∷ []) Ended p.script q.script g.script e.script);
+      text = g.text ++ e.text;
+      writes = writes_on e.done e.text e.writes;
+      out = e.out ∙ out_on e.text;
+      out_calm = e.out_calm;
+    }
+
+    stops_on : (Why Why' : List Command → Type 0) → ((done : List Command) → Why done → Why' (g.done ++ done)) → Stops told q l Why → Stops told p l Why'
+    stops_on Why Why' on st = record {
+      done = g.done ++ st.done;
+      text = g.text ++ st.text;
+      writes = writes_on st.done st.text st.writes;
+      out = st.out ∙ out_on st.text;
+      out_calm = st.out_calm;
+      why = on st.done st.why;
+    }
+
+    at_report : (done : List Command) → Begins q.script (done ++ Report ∷ []) → Begins p.script ((g.done ++ done) ++ Report ∷ [])
+    at_report done begins =
+        subst (λ (cs : List Command). Begins p.script cs) (sym (append_assoc g.done done (Report ∷ []))) (begins_behind g.done (done ++ Report ∷ []) p.script q.script g.script begins)
+
+    told_on : (done : List Command) → edited_told told (q.state.edits ++ edits_of done) ≡ edited_told told (p.state.edits ++ edits_of (g.done ++ done))
+    told_on done = ap (λ (es : List Edit). edited_told told es) (edits_on done)
+
+    cuts_on : Cuts told q l → Cuts told p l
+    cuts_on c = record {
+      tree = c.tree;
+      input = c.input;
+      done = g.done ++ c.done;
+      script = at_report c.done c.script;
+      text = g.text ++ c.text;
+      writes = writes_on c.done c.text c.writes;
+      report = c.report;
+      is = subst (λ (o : Options). IsReport o (edited_told told (p.state.edits ++ edits_of (g.done ++ c.done))) c.report) g.options
+          (subst (λ f. IsReport q.state.options f c.report) (told_on c.done) c.is);
+      front = subst (λ h. GainsFront h l.out (report_text c.report)) (out_on c.text) c.front;
+    }
+
+    pub goes_to_stop : (refusal : Refusal) → StopCause told q l refusal → StopCause told p l refusal
+    goes_to_stop (TreeFailed path) st = stops_on _ _ (λ done why. (at_report done why.0, why.1)) st
+    goes_to_stop (NotARepository path) st =
+        stops_on _ _ (λ done why. (at_report done why.0, (why.1.0, subst (λ f. IsUnloaded f (loads.NotARepository path)) (told_on done) why.1.1))) st
+    goes_to_stop (Limit place number) st = stops_on _ _ (λ done why. (why.0, by done why.1)) st
+      where
+        by : (done : List Command) → (Begins q.script (done ++ Report ∷ []) × IsPastLimit (edited_told told (q.state.edits ++ edits_of done)) q.state.options [] place number)
+            ⊎ (Is q.script done Passed × ((q.read + length done ≡ 1000000) × ((place ≡ codes "script") × (number ≡ 1000000))))
+            → (Begins p.script ((g.done ++ done) ++ Report ∷ []) × IsPastLimit (edited_told told (p.state.edits ++ edits_of (g.done ++ done))) p.state.options [] place number)
+            ⊎ (Is p.script (g.done ++ done) Passed × ((p.read + length (g.done ++ done) ≡ 1000000) × ((place ≡ codes "script") × (number ≡ 1000000))))
+        by done (inl why) =
+            inl (
+              at_report done why.0,
+              subst (λ (o : Options). IsPastLimit (edited_told told (p.state.edits ++ edits_of (g.done ++ done))) o [] place number) g.options
+                  (subst (λ f. IsPastLimit f q.state.options [] place number) (told_on done) why.1),
+            )
+        by done (inr why) = inr (is_behind g.done done Passed p.script q.script g.script why.0, (sym (read_on done) ∙ why.1.0, why.1.1))
+    goes_to_stop (Spent text) st =
+        stops_on _ _
+        (λ done why. (
+          at_report done why.0,
+          (
+            why.1.0,
+            subst (λ (o : Options). IsSpentAt (edited_told told (p.state.edits ++ edits_of (g.done ++ done))) o [] text) g.options
+                (subst (λ f. IsSpentAt f q.state.options [] text) (told_on done) why.1.1),
+          ),
+        )) st
+    goes_to_stop InputFailed st = stops_on _ _ (λ done why. (begins_behind g.done done p.script q.script g.script why.0, why.1)) st
+    goes_to_stop (BadCommand number) st =
+        stops_on _ _ (λ done why. (is_behind g.done done Broken p.script q.script g.script why.0, (why.1.0, why.1.1 ∙ ap (λ (n : ℕ). n + 1) (read_on done)))) st
+    goes_to_stop OutputFailed st = (cuts_on st.0, st.1)
+    goes_to_stop NoMemory (inl st) = inl (stops_on _ _ (λ done why. begins_behind g.done done p.script q.script g.script why) st)
+    goes_to_stop NoMemory (inr c) = inr (cuts_on c)
+    goes_to_stop (StoreFailed path) st = st
+    goes_to_stop BadWords st = st
+
+pub goes_nowhere : (told : Option FileMap) (p : At) → Goes told p p
+goes_nowhere told p = record {
+  done = [];
+  text = [];
+  options = refl;
+  edits = sym (append-nil p.state.edits);
+  script = same p.script;
+  read = omega arith;
+  writes = refl;
+  out = gains_nothing p.out;
+}
+  where
+    same : (script : Option Script) → script ≡ option_map (behind []) script
+    same None = refl
+    same (Some x) = refl
+
+-- ---- in the loop over commands
+
+pub goes_further : (told : Option FileMap) (p q : At) (l : Left) (over : Bool) → over ≡ false → StepIs told p q l over → StepIs told p q l false
+goes_further told p q l over is step = subst (StepIs told p q l) is step
+
+pub ends_there : (told : Option FileMap) (p q : At) (l : Left) (over : Bool) → over ≡ true → StepIs told p q l over → Ends told p l
+ends_there told p q l over is step = subst (StepIs told p q l) is step
+
+pub goes_from : (told told' : Option FileMap) (p q r : At) → told' ≡ told → Goes told p q → Goes told' q r → Goes told p r
+goes_from told told' p q r same g h = goes_on told p q g r (subst (λ (x : Option FileMap). Goes x q r) same h)
+
+module _ (told told' : Option FileMap) (p q : At) (same : told' ≡ told) (g : Goes told p q) (tb tb' tn ib ib' im : ℕ) (out : Option (List ℕ)) (ob ob' on : ℕ) (tree : tb' ≡ tb) (input : ib' ≡ ib) (still : ob' ≡ ob) where
+  pub stops_from : (refusal : Refusal) → StopCause told' q (leaving tb' tn ib' im out ob' on) refusal → StopCause told p (leaving tb tn ib im out ob on) refusal
+  stops_from refusal st =
+      goes_to_stop told p q g (leaving tb tn ib im out ob on) refusal
+      (subst (λ (x : Option FileMap). StopCause x q (leaving tb tn ib im out ob on) refusal) same
+      (subst (λ (n : ℕ). StopCause told' q (leaving n tn ib im out ob on) refusal) tree
+      (subst (λ (n : ℕ). StopCause told' q (leaving tb' tn n im out ob on) refusal) input
+      (subst (λ (n : ℕ). StopCause told' q (leaving tb' tn ib' im out n on) refusal) still st))))
+
+  pub ends_from : Ends told' q (leaving tb' tn ib' im out ob' on) → Ends told p (leaving tb tn ib im out ob on)
+  ends_from e =
+      goes_to_end told p q g (leaving tb tn ib im out ob on)
+      (subst (λ (x : Option FileMap). Ends x q (leaving tb tn ib im out ob on)) same
+      (subst (λ (n : ℕ). Ends told' q (leaving n tn ib im out ob on)) tree
+      (subst (λ (n : ℕ). Ends told' q (leaving tb' tn n im out ob on)) input
+      (subst (λ (n : ℕ). Ends told' q (leaving tb' tn ib' im out n on)) still e))))

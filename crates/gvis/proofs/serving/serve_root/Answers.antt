@@ -1,0 +1,25 @@
+use Rattle.std.proofs.Common.{refl, ap, ◌∙◌}
+use Rattle.gv_edits.specs.Script.{Reading}
+use Rattle.gv_session.specs.Session.{State}
+use Rattle.gvis.proofs.Sessions.{served_from, stopped_from, unserved}
+use Rattle.gvis.proofs.serving.serve_root.Goals as goal
+
+pub returns-in-Ok-serve_script-clause-performs : goal.returns-in-Ok-serve_script-clause-performs
+returns-in-Ok-serve_script-clause-performs g c = λ words before kept store_faults asks is.
+    let ended = c.in-Ok-serve_script.ensures in
+    served_from words c.args.sitting.now asks before _ (ended.root ∙ is) _ _ ended.files _ _ ended.tree_later kept store_faults _ _ _ _ ended.out_later _ _ _ _ _ _ _
+    (ap (λ (x : State). x.options) c.start-session.ensures ∙ c.in-Ok.ensures) (ap (λ (x : State). x.edits) c.start-session.ensures) (c.in-Ok-new.ensures.whole _) (ap (λ (r : Reading). r.read) c.in-Ok-new.ensures.new) refl
+    ended.done
+
+pub returns-clause-performs : goal.returns-clause-performs
+returns-clause-performs g c = λ words before kept store_faults asks is.
+    let ended = c.in-Err.ensures in
+    stopped_from words c.args.sitting.now asks before _ (ended.root ∙ is) _ _ ended.files _ _ ended.tree_later kept store_faults _ _ _ _ ended.out_later _ _ _ _ _ _ _
+    (ap (λ (x : State). x.options) c.start-session.ensures ∙ c.in-Ok.ensures) (ap (λ (x : State). x.edits) c.start-session.ensures) (c.in-Ok-new.ensures.whole _) (ap (λ (r : Reading). r.read) c.in-Ok-new.ensures.new) refl
+    c.in-Err.refusal ended.cause
+
+pub returns-in_default-clause-performs : goal.returns-in_default-clause-performs
+returns-in_default-clause-performs g c = λ words before kept store_faults asks is. unserved words c.args.sitting.now asks before _ is _ _ kept store_faults _ _ _ _ _
+
+pub returns-in_default-new-clause-performs : goal.returns-in_default-new-clause-performs
+returns-in_default-new-clause-performs g c = λ words before kept store_faults asks is. unserved words c.args.sitting.now asks before _ is _ _ kept store_faults _ _ _ _ _

@@ -1,0 +1,183 @@
+-- What a session writes, and what a run of `session` leaves.
+use Rattle.std.specs.Prelude.{◌≡◌, ◌⊎◌, ℕ, ◌+◌, List, [], ◌∷◌, ◌++◌, length, codes, decimal, Option, Some, IfSome, Result, Ok, Err}
+use Rattle.std.specs.List.{AllByRecursion}
+use Rattle.gv_base.specs.Causes.{Rose}
+use Rattle.gv_base.specs.FileMap.{FileMap}
+use Rattle.gv_base.specs.Outside.{gains}
+use Rattle.gv_edits.specs.Edits.{edited, edited_told}
+use Rattle.gv_edits.specs.Script.{Ending, Script, script_of, Ended, Broken, Passed}
+use Rattle.gv_edits.specs.declared.command.Command.{Command}
+use Rattle.gv_edits.specs.declared.command.Command.TheVariants as commands
+use Rattle.gv_edits.specs.declared.edit.Edit.{Edit}
+use Rattle.gv_edits.specs.declared.edit.Edit.TheVariants.{Put, Cut}
+use Rattle.gv_load.specs.Loading.{loading}
+use Rattle.gv_load.specs.Look.{look_of}
+use Rattle.gv_load.specs.declared.faults.LoadFault.{LoadFault}
+use Rattle.gv_load.specs.declared.faults.LoadFault.TheVariants as loads
+use Rattle.gv_load.specs.declared.loading.Repo.{Repo}
+use Rattle.gv_report.specs.declared.options.Options.{Options}
+use Rattle.gv_checks.specs.Limits.{IsWithin}
+use Rattle.gv_checks.specs.Queries.{queries}
+use Rattle.gv_checks.specs.RepoReports.{scan_text}
+use Rattle.gvis.specs.declared.asking.Sitting.{Sitting}
+use Rattle.gvis.specs.declared.refusal.Refusal.{Refusal}
+use Rattle.gvis.specs.declared.refusal.Refusal.TheVariants.{BadWords, TreeFailed, StoreFailed, OutputFailed, Spent, NoMemory, NotARepository, Limit, InputFailed, BadCommand}
+use Rattle.gvis.specs.Asking.{AsksForSession}
+use Rattle.gvis.specs.Endings.{GainsFront}
+use Rattle.gvis.specs.Run.{IsPastLimit, IsSpentAt, SameStore, SameTree, World}
+use Rattle.gvis.specs.Scan.{Fits, IsLoaded, IsPastOne, IsUnloaded, unloaded_status}
+
+-- what was left of the input and is left of it, where this is told, and how often it had failed and has
+pub record Fed : Type 0 where
+  pub old : Option (List ℕ)
+  pub new : Option (List ℕ)
+  pub before : ℕ
+  pub now : ℕ
+
+abbrev pub fed : Option (List ℕ) → Option (List ℕ) → ℕ → ℕ → Fed
+fed old new before now = record { old = old; new = new; before = before; now = now }
+
+-- the input didn't fail
+abbrev pub CalmInput : Fed → Type 0
+CalmInput input = input.now ≡ input.before
+
+-- ---- what is written
+
+-- the edits among commands
+abbrev pub edits_of : List Command → List Edit
+edits_of [] = []
+edits_of (commands.Put path bytes ∷ cs) = Put path bytes ∷ edits_of cs
+edits_of (commands.Cut path ∷ cs) = Cut path ∷ edits_of cs
+edits_of (commands.Report ∷ cs) = edits_of cs
+edits_of (commands.End ∷ cs) = edits_of cs
+
+-- `report LENGTH`, which counts bytes, and the report
+abbrev pub report_text : List ℕ → List ℕ
+report_text report = codes "report " ++ (decimal (length report) ++ (codes "\n" ++ report))
+
+-- the text of the scan of the repository of these files, where they are told; each of its queries is within the limits
+pub record IsReport (options : Options) (told : Option FileMap) (report : List ℕ) : Type 0 where
+  pub repo : Repo
+  pub loaded : IsLoaded told repo
+  pub within : AllByRecursion IsWithin (queries options repo)
+  pub text_is : report ≡ scan_text options repo
+
+-- what commands write behind these edits of a tree's files, where `end` is none of them: for each `report` the line and the
+-- report of the files with the edits before it
+abbrev pub Writes : Options → (told : Option FileMap) → List Edit → List Command → (text : List ℕ) → Type 0
+Writes options told edits [] text = text ≡ []
+Writes options told edits (commands.Put path bytes ∷ cs) text = Writes options told (edits ++ Put path bytes ∷ []) cs text
+Writes options told edits (commands.Cut path ∷ cs) text = Writes options told (edits ++ Cut path ∷ []) cs text
+Writes options told edits (commands.Report ∷ cs) text =
+    (report : List ℕ) × IsReport options (edited_told told edits) report × (rest : List ℕ) × (text ≡ report_text report ++ rest) × Writes options told edits cs rest
+Writes options told edits (commands.End ∷ cs) text = ⊥
+
+-- ---- which commands the input has, where it tells its bytes
+
+-- exactly these, and so the script ends
+abbrev pub IsScript : (left : Option (List ℕ)) → List Command → Ending → Type 0
+IsScript left cs ending = IfSome left (λ bytes. script_of bytes ≡ record { commands = cs; ending = ending })
+
+-- these first
+abbrev pub BeginsScript : (left : Option (List ℕ)) → List Command → Type 0
+BeginsScript left cs = IfSome left (λ bytes. (more : List Command) × (ending : Ending) × (script_of bytes ≡ record { commands = cs ++ more; ending = ending }))
+
+-- these, and then `report`
+abbrev pub IsAtReport : (left : Option (List ℕ)) → List Command → Type 0
+IsAtReport left cs = BeginsScript left (cs ++ commands.Report ∷ [])
+
+-- ---- what a run leaves
+
+-- the words ask for this session, and the tree was entered at its root; the store holds what it held, and didn't fail
+pub record AsSession (words : List (List ℕ)) (s : Sitting) (old new : World) : Type 0 where
+  pub asked : AsksForSession words s
+  pub root : new.root ≡ Some s.root
+  pub store : SameStore old new
+
+-- neither the tree nor the input failed
+abbrev pub Calm : World → World → Fed → Type 0
+Calm old new input = SameTree old new × CalmInput input
+
+-- `end` was read; the output gained exactly what the commands before it write
+pub record Serves (words : List (List ℕ)) (old new : World) (input : Fed) (status : ℕ) : Type 0 where
+  pub sitting : Sitting
+  pub as_session : AsSession words sitting old new
+  pub calm : Calm old new input
+  pub done : List Command
+  pub script : IsScript input.old (done ++ commands.End ∷ []) Ended
+  pub text : List ℕ
+  pub writes : Writes sitting.options old.files [] done text
+  pub out : new.out ≡ gains old.out text
+  pub out_calm : new.out_faults ≡ old.out_faults
+  pub status_is : status ≡ 0
+
+-- it ended behind these commands; the output gained exactly what they write
+pub record Halts (words : List (List ℕ)) (old new : World) (Why : Sitting → (done : List Command) → Type 0) : Type 0 where
+  pub sitting : Sitting
+  pub as_session : AsSession words sitting old new
+  pub done : List Command
+  pub text : List ℕ
+  pub writes : Writes sitting.options old.files [] done text
+  pub out : new.out ≡ gains old.out text
+  pub out_calm : new.out_faults ≡ old.out_faults
+  pub why : Why sitting done
+
+-- behind these a report was not written whole: the output gained besides some first bytes of its line and text
+pub record CutsReport (words : List (List ℕ)) (old new : World) (input : Fed) : Type 0 where
+  pub sitting : Sitting
+  pub as_session : AsSession words sitting old new
+  pub calm : Calm old new input
+  pub done : List Command
+  pub script : IsAtReport input.old done
+  pub text : List ℕ
+  pub writes : Writes sitting.options old.files [] done text
+  pub report : List ℕ
+  pub is : IsReport sitting.options (edited_told old.files (edits_of done)) report
+  pub front : GainsFront (gains old.out text) new.out (report_text report)
+
+-- when a session is refused so, and what it leaves then
+abbrev pub SessionRefuses : List (List ℕ) → World → World → Fed → Refusal → Type 0
+SessionRefuses words old new input (TreeFailed path) =
+    Halts words old new (λ s done. IsAtReport input.old done × (CalmInput input × Rose old.tree_faults new.tree_faults))
+SessionRefuses words old new input (NotARepository path) =
+    Halts words old new (λ s done. IsAtReport input.old done × (Calm old new input × IsUnloaded (edited_told old.files (edits_of done)) (loads.NotARepository path)))
+SessionRefuses words old new input (Limit place number) =
+    Halts words old new (λ s done. Calm old new input
+    × ((IsAtReport input.old done × IsPastLimit (edited_told old.files (edits_of done)) s.options [] place number)
+    ⊎ (IsScript input.old done Passed × ((length done ≡ 1000000) × ((place ≡ codes "script") × (number ≡ 1000000))))))
+SessionRefuses words old new input (Spent text) =
+    Halts words old new (λ s done. IsAtReport input.old done × (Calm old new input × IsSpentAt (edited_told old.files (edits_of done)) s.options [] text))
+SessionRefuses words old new input InputFailed =
+    Halts words old new (λ s done. BeginsScript input.old done × (SameTree old new × Rose input.before input.now))
+SessionRefuses words old new input (BadCommand number) =
+    Halts words old new (λ s done. IsScript input.old done Broken × (Calm old new input × (number ≡ length done + 1)))
+SessionRefuses words old new input OutputFailed = CutsReport words old new input × Rose old.out_faults new.out_faults
+SessionRefuses words old new input NoMemory = Halts words old new (λ s done. BeginsScript input.old done) ⊎ CutsReport words old new input
+SessionRefuses words old new input (StoreFailed path) = ⊥
+SessionRefuses words old new input BadWords = ⊥
+
+-- ---- where nothing outside fails
+
+abbrev pub ending_status : Ending → ℕ
+ending_status Ended = 0
+ending_status Broken = 8
+ending_status Passed = 7
+
+-- at a report: a repository of which no query can be refused is passed by, one with a query past a limit is 7, and else the
+-- status is that of loading
+abbrev pub SaysAt : Options → Result Repo LoadFault → (Behind : Type 0) → ℕ → Type 0
+SaysAt options (Ok repo) Behind status = (Fits options [] repo → Behind) × (IsPastOne options [] repo → status ≡ 7)
+SaysAt options (Err fault) Behind status = status ≡ unloaded_status fault
+
+-- the status of the commands behind these edits, and of so an ending
+abbrev pub SaysBehind : Options → FileMap → List Edit → List Command → Ending → ℕ → Type 0
+SaysBehind options files edits [] ending status = status ≡ ending_status ending
+SaysBehind options files edits (commands.Put path bytes ∷ cs) ending status = SaysBehind options files (edits ++ Put path bytes ∷ []) cs ending status
+SaysBehind options files edits (commands.Cut path ∷ cs) ending status = SaysBehind options files (edits ++ Cut path ∷ []) cs ending status
+SaysBehind options files edits (commands.Report ∷ cs) ending status =
+    SaysAt options (loading (look_of (edited files edits))) (SaysBehind options files edits cs ending status) status
+SaysBehind options files edits (commands.End ∷ cs) ending status = status ≡ 0
+
+-- the status of a session in which nothing outside fails
+abbrev pub SessionSays : Sitting → FileMap → Script → ℕ → Type 0
+SessionSays s files script status = SaysBehind s.options files [] script.commands script.ending status

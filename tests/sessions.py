@@ -1,0 +1,109 @@
+#!/usr/bin/env python3
+"""Runs sessions of the built program: each report is what a scan with --fresh prints of the edited files, written out.
+
+    sessions.py BINARY
+
+For each of 200 random repositories a script is made of 20 random edits with a `report` before them and behind each; a session
+that ends at a report has to end as the scan does. Prints a line for each that went wrong, and last how many passed. Exit status
+1 where one went wrong.
+"""
+import os
+import random
+import subprocess
+import sys
+import tempfile
+
+sys.dont_write_bytecode = True
+from random_repositories import draw_options, draw_repository, put_files  # noqa: E402
+from results import tell  # noqa: E402
+
+REPOSITORIES, EDITS = 200, 20
+LISTS = ("profiles/profiles.desc", "profiles/categories")
+
+
+def drawn_edit(draw, files, other):
+    """The commands of an edit: a file of the other repository, a line more in a file, or a file that goes. What stands on the way
+    of a file that is put goes first, since no folder of a disk can be a file too."""
+    path = draw.choice(sorted(set(files) | set(other)))
+    how = draw.randrange(4)
+    if how < 2 and path in other:
+        content = other[path]
+    elif how == 2 and files.get(path):
+        lines = files[path].splitlines(True)
+        lines.insert(draw.randrange(len(lines) + 1), draw.choice(lines))
+        content = b"".join(lines)
+    else:
+        return [] if path in LISTS else [(path, None)]
+    on_the_way = sorted(old for old in files if old.startswith(path + "/") or path.startswith(old + "/"))
+    return [(old, None) for old in on_the_way if old not in LISTS] + [(path, content)]
+
+
+def apply(files, folder, commands):
+    """The files with these edits, on the disk too, where a folder goes with its last file."""
+    for path, content in commands:
+        if content is not None:
+            files[path] = content
+            put_files(folder, {path: content})
+        elif files.pop(path, None) is not None:
+            place = os.path.join(folder, path)
+            os.remove(place)
+            while not os.listdir(os.path.dirname(place)):
+                place = os.path.dirname(place)
+                os.rmdir(place)
+
+
+def written(commands):
+    """The lines of these edits."""
+    return b"".join(b"cut %s\n" % path.encode() if content is None else b"put %s %d\n%s\n" % (path.encode(), len(content), content)
+                    for path, content in commands)
+
+
+def run(binary, words, folder, script=b""):
+    done = subprocess.run([binary] + words, cwd=folder, input=script, capture_output=True, timeout=60)
+    return done.returncode, done.stdout, done.stderr
+
+
+def served(binary, number, folder):
+    """How a session over a repository ends, and how scans of the edited files say that it has to; and how many reports it has."""
+    draw = random.Random(number + 9000)
+    files, other = draw_repository(draw), draw_repository(draw)
+    words = [word for word in draw_options(draw)[1] if word != "--fresh"]
+    asked = [word for at, word in enumerate(words) if not word.startswith("--certs") and words[at - 1] != "--certs"]
+    root, session = os.path.join(folder, "edited", "R"), os.path.join(folder, "session")
+    put_files(root, files)
+    put_files(os.path.join(session, "R"), files)
+    files, script, out, reports = dict(files), b"", b"", 0
+    ended = None
+    for at in range(EDITS + 1):
+        if at:
+            commands = drawn_edit(draw, files, other)
+            apply(files, root, commands)
+            script += written(commands)
+        script += b"report\n"
+        if ended is None:
+            status, text, err = run(binary, words + ["--fresh"], os.path.join(folder, "edited"))
+            if status > 1:
+                ended = (status, out, err)
+            else:
+                out += b"report %d\n" % len(text) + text
+                reports += 1
+    got = run(binary, ["session"] + asked[1:], session, script + b"end\n")
+    return ("session %d" % number, got, ended or (0, out, b"")), reports
+
+
+def main(binary):
+    binary = os.path.abspath(binary)
+    results, count = [], 0
+    for number in range(REPOSITORIES):
+        with tempfile.TemporaryDirectory() as folder:
+            result, reports = served(binary, number, folder)
+        results.append(result)
+        count += reports
+    print("%d sessions with %d reports" % (REPOSITORIES, count))
+    return tell(results)
+
+
+if __name__ == "__main__":
+    if len(sys.argv) != 2:
+        sys.exit(__doc__)
+    sys.exit(main(sys.argv[1]))
