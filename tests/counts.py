@@ -4,8 +4,8 @@
     counts.py BINARY
 
 valgrind counts the calls of what solves, of what lowers and of what takes memory in a scan of a tree with some profiles that
-say the same, and in one of the same tree with more of them. Each distinct query is solved once; what one profile had lowered
-isn't lowered for another; and a query of another profile takes at most MOST calls for memory. Prints the counts, and a line
+say the same, and in one of the same tree with more of them. Each distinct query is solved once; an expression of a package is
+lowered once, whatever its classes and profiles; and a query of another profile takes at most MOST calls for memory. Prints the counts, and a line
 for each case that went wrong. Exit status 1 where one went wrong. Where there is no valgrind, prints that nothing was counted.
 """
 import hashlib
@@ -23,6 +23,8 @@ PACKAGES = 40
 FEW, MANY = 3, 9
 # of REQUIRED_USE and of the five classes, in each context
 QUERIES = 6
+# of REQUIRED_USE, of RDEPEND, of DEPEND, and the empty one that three classes have
+EXPRESSIONS = 4
 # calls for memory that one more query may cost, with its part of a report and of reading the profile
 MOST = 1.5
 # Each is called once where a query is solved in a fresh scan, and once where one is lowered: counted is the first that the
@@ -118,7 +120,7 @@ def main(binary):
     for profiles, (counted, records, _) in ((FEW, few), (MANY, many)):
         results.append((f"each distinct query solved once, with {profiles} profiles", first_of(counted, SOLVES), records))
     lowered = [first_of(counted, LOWERS) for counted, _, _ in (few, many)]
-    results.append(("what one profile had lowered not lowered for another", lowered, [QUERIES * PACKAGES] * 2))
+    results.append(("each expression of a package lowered once, and not for another profile", lowered, [EXPRESSIONS * PACKAGES] * 2))
     each = (many[2] - few[2]) / ((MANY - FEW) * PACKAGES * QUERIES)
     results.append((f"calls for memory of one more query, {each:.2f}, at most {MOST}", each <= MOST, True))
     print(f"{few[1]} solved, {lowered[1]} lowered, {each:.2f} calls for memory a query of one more profile")
