@@ -44,11 +44,9 @@ const COUNT: u32 = 100_000;
 
 fn chain(alloc: Global) -> Result<Clauses, NoMemory> {
     let mut clauses = Clauses::new(alloc, COUNT);
-    let first = Clause::of(alloc, &[Lit(0)])?;
-    clauses.add(first)?;
+    clauses.add(&[Lit(0)])?;
     for k in 1..COUNT {
-        let next = Clause::of(alloc, &[Lit(2 * k - 1), Lit(2 * k)])?;
-        clauses.add(next)?;
+        clauses.add(&[Lit(2 * k - 1), Lit(2 * k)])?;
     }
     Ok(clauses)
 }

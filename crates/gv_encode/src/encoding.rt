@@ -7,7 +7,7 @@ ghost use Rattle.gv_logic.specs.declared.gates.Op.TheVariants.{And, Or};
 ghost use Rattle.gv_logic.specs.Encoding.{op_clauses, formula_of};
 
 use gv_base::NoMemory;
-use gv_logic::{Clause, Clauses, Gates, Lit, Lits, Op};
+use gv_logic::{Clause, Clauses, Gates, Lit, Op};
 use std::alloc::Global;
 
 /// The clauses of gates over the places as variables, gate by gate. For an And gate g over l1 to
@@ -28,23 +28,12 @@ pub fn encode(alloc: Global, gates: &Gates) -> Result<Clauses, NoMemory>
             gates.operands(n),
         )?;
     }
-    let root = Clause::of(alloc, &[gates.root()])?;
-    clauses.add(root)?;
+    clauses.add(&[gates.root()])?;
     Ok(clauses)
 }
 
-fn opposites(alloc: Global, lits: &[Lit]) -> Result<Lits, NoMemory>
-    ensures { IfOk result (λ list. list ≡ map opposite lits.now) }
-{
-    let mut list = Lits::new(alloc);
-    for lit in lits {
-        list.add(lit.opposite())?;
-    }
-    Ok(list)
-}
-
 // For each literal the clause of `first` and it.
-fn add_pairs(alloc: Global, clauses: &mut Clauses, first: Lit, lits: &[Lit]) -> Result<(), NoMemory>
+fn add_pairs(clauses: &mut Clauses, first: Lit, lits: &[Lit]) -> Result<(), NoMemory>
     requires first { first < 2 * clauses.old.variables }
     requires named { AllByRecursion (λ l. l < 2 * clauses.old.variables) lits.now }
     ensures { OnOk result (clauses.new ≡ record clauses.old {
@@ -52,8 +41,22 @@ fn add_pairs(alloc: Global, clauses: &mut Clauses, first: Lit, lits: &[Lit]) -> 
     }) }
 {
     for lit in lits {
-        let pair = Clause::of(alloc, &[first, *lit])?;
-        clauses.add(pair)?;
+        clauses.add(&[first, *lit])?;
+    }
+    Ok(())
+}
+
+// For each literal the clause of `first` and its opposite.
+#[tactic(auto, using(crate::proofs::Truth::opposite_below))]
+fn add_opposite_pairs(clauses: &mut Clauses, first: Lit, lits: &[Lit]) -> Result<(), NoMemory>
+    requires first { first < 2 * clauses.old.variables }
+    requires named { AllByRecursion (λ l. l < 2 * clauses.old.variables) lits.now }
+    ensures { OnOk result (clauses.new ≡ record clauses.old {
+      clauses = clauses.old.clauses ++ map (λ l. first ∷ opposite l ∷ []) lits.now;
+    }) }
+{
+    for lit in lits {
+        clauses.add(&[first, lit.opposite()])?;
     }
     Ok(())
 }
@@ -70,7 +73,27 @@ fn add_whole(alloc: Global, clauses: &mut Clauses, first: Lit, lits: &[Lit]) -> 
     for lit in lits {
         whole.add(*lit)?;
     }
-    clauses.add(whole)
+    clauses.add(whole.items())
+}
+
+// The clause of `first` and the opposites of all the literals.
+fn add_whole_of_opposites(
+    alloc: Global,
+    clauses: &mut Clauses,
+    first: Lit,
+    lits: &[Lit],
+) -> Result<(), NoMemory>
+    requires first { first < 2 * clauses.old.variables }
+    requires named { AllByRecursion (λ l. l < 2 * clauses.old.variables) lits.now }
+    ensures { OnOk result (clauses.new ≡ record clauses.old {
+      clauses = clauses.old.clauses ++ (first ∷ map opposite lits.now) ∷ [];
+    }) }
+{
+    let mut turned = Clause::of(alloc, &[first])?;
+    for lit in lits {
+        turned.add(lit.opposite())?;
+    }
+    clauses.add(turned.items())
 }
 
 // (not g, li) for each i, then (g, not l1, .., not lm).
@@ -89,9 +112,8 @@ fn add_and(
 {
     let on = Lit(2 * place);
     let off = Lit(2 * place + 1);
-    let turned = opposites(alloc, operands)?;
-    add_pairs(alloc, clauses, off, operands)?;
-    add_whole(alloc, clauses, on, turned.items())
+    add_pairs(clauses, off, operands)?;
+    add_whole_of_opposites(alloc, clauses, on, operands)
 }
 
 // (g, not li) for each i, then (not g, l1, .., lm).
@@ -110,19 +132,12 @@ fn add_or(
 {
     let on = Lit(2 * place);
     let off = Lit(2 * place + 1);
-    let turned = opposites(alloc, operands)?;
-    add_pairs(alloc, clauses, on, turned.items())?;
+    add_opposite_pairs(clauses, on, operands)?;
     add_whole(alloc, clauses, off, operands)
 }
 
 // The two clauses of a gate over one literal.
-fn add_single(
-    alloc: Global,
-    clauses: &mut Clauses,
-    place: u32,
-    op: Op,
-    lit: Lit,
-) -> Result<(), NoMemory>
+fn add_single(clauses: &mut Clauses, place: u32, op: Op, lit: Lit) -> Result<(), NoMemory>
     requires few { clauses.old.variables ≤ 2 ^ 30 }
     requires place { place < clauses.old.variables }
     requires earlier { lit < 2 * place }
@@ -130,16 +145,16 @@ fn add_single(
       clauses = clauses.old.clauses ++ op_clauses place op (lit ∷ []);
     }) }
 {
-    let forth = Clause::of(alloc, &[Lit(2 * place + 1), lit])?;
-    let back = Clause::of(alloc, &[Lit(2 * place), lit.opposite()])?;
+    let forth = [Lit(2 * place + 1), lit];
+    let back = [Lit(2 * place), lit.opposite()];
     match op {
         Op::And => {
-            clauses.add(forth)?;
-            clauses.add(back)
+            clauses.add(&forth)?;
+            clauses.add(&back)
         }
         Op::Or => {
-            clauses.add(back)?;
-            clauses.add(forth)
+            clauses.add(&back)?;
+            clauses.add(&forth)
         }
     }
 }
@@ -159,7 +174,7 @@ fn add_gate(
     }) }
 {
     match (operands, op) {
-        ([one], _) => add_single(alloc, clauses, place, op, *one),
+        ([one], _) => add_single(clauses, place, op, *one),
         (_, Op::And) => add_and(alloc, clauses, place, operands),
         (_, Op::Or) => add_or(alloc, clauses, place, operands),
     }

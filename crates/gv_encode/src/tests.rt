@@ -40,11 +40,12 @@ fn clauses_stand_in_the_written_order(rt: HostRuntime) -> Result<(), Fail> {
     for (what, bytes, want) in cases {
         let gates = read_gates(alloc, bytes)?.expect(&rt, what);
         let clauses = encode(alloc, &gates)?;
-        assert_eq!(rt; clauses.items().len(), want.len(), "{what}");
-        for (clause, lits) in clauses.items().iter().zip(want) {
-            assert_eq!(rt; clause.items().len(), lits.len(), "{what}");
-            for (lit, number) in clause.items().iter().zip(*lits) {
-                assert_eq!(rt; lit.0, *number, "{what}");
+        assert_eq!(rt; clauses.count() as usize, want.len(), "{what}");
+        for (number, lits) in (0..clauses.count()).zip(want) {
+            let clause = clauses.get(number).expect(&rt, what);
+            assert_eq!(rt; clause.len(), lits.len(), "{what}");
+            for (lit, wanted) in clause.iter().zip(*lits) {
+                assert_eq!(rt; lit.0, *wanted, "{what}");
             }
         }
     }
@@ -91,12 +92,12 @@ fn is_on(places: &[bool], lit: Lit) -> bool {
 
 // How many clauses stand before the first that isn't true.
 fn true_clauses(places: &[bool], clauses: &Clauses) -> usize {
-    for (count, clause) in clauses.items().iter().enumerate() {
-        if !clause.items().iter().any(|lit| is_on(places, *lit)) {
-            return count;
+    for number in 0..clauses.count() {
+        if !clauses.at(number).iter().any(|lit| is_on(places, *lit)) {
+            return number as usize;
         }
     }
-    clauses.items().len()
+    clauses.count() as usize
 }
 
 // So many bits of a number, the lowest first.
@@ -117,7 +118,7 @@ fn one_assignment_extends_the_bits(rt: HostRuntime) -> Result<(), Fail> {
     for start in 0..36 {
         let gates = read_gates(alloc, &four_gates(alloc, start)?)?.ok_or("no gates")?;
         let clauses = encode(alloc, &gates)?;
-        let all = clauses.items().len();
+        let all = clauses.count() as usize;
         let but_last = all.saturating_sub(1);
         for number in 0..8 {
             let mut bits = Bits::new(alloc);

@@ -1,13 +1,12 @@
 -- Values of the definitions on worked examples.
-use Rattle.std.specs.Prelude.{◌≡◌, ℕ, Bool, true, false, List, [], ◌∷◌, Option, None, Some, refl}
-use Rattle.std.specs.Int.{to_be_bytes}
+use Rattle.std.specs.Prelude.{◌≡◌, ℕ, true, false, List, [], ◌∷◌, None, Some, refl}
 use Rattle.gv_logic.specs.declared.gates.Op.TheVariants.{And, Or}
 use Rattle.gv_logic.specs.Bytes.{number_bytes, circuit_bytes}
 use Rattle.gv_logic.specs.Circuits.{Circuit, at, op_value, values, value}
 use Rattle.gv_logic.specs.Encoding.{op_clauses, all_clauses}
 use Rattle.gv_logic.specs.Literals.{opposite}
-use Rattle.gv_logic.specs.Logs.{Step, follows, first_refused, set_clause, least_set}
-use Rattle.gv_logic.specs.Partial.{all_false, unit_after}
+use Rattle.gv_logic.specs.Logs.{follows, first_refused, set_clause, least_set}
+use Rattle.gv_logic.specs.Partial.{unit_after}
 
 opposites : (opposite 4 ∷ opposite 5 ∷ []) ≡ 5 ∷ 4 ∷ []
 opposites = refl

@@ -2,6 +2,8 @@ pub mod Cancel
 pub mod Drafts
 mod Examples
 pub mod GateBytes
+pub mod LitLists
 pub mod ManyGates
+pub mod NodeLemmas
 pub mod Steps
 pub mod WholeBytes

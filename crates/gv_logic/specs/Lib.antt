@@ -6,7 +6,9 @@ pub mod Encoding
 pub mod Formulas
 pub mod Kept
 pub mod Laws
+pub mod LitLists
 pub mod Literals
 pub mod Logs
+pub mod Nodes
 pub mod Partial
 pub mod Reading

@@ -1,10 +1,11 @@
 //! Clauses and lists of clauses.
 
-ghost use Rattle.std.specs.Prelude.{◌≡◌, ◌*◌, ◌<◌, ◌^◌, List, ℕ, [], ◌∷◌, ◌++◌, length, IfOk, OnOk, OnErr};
+ghost use Rattle.std.specs.Prelude.{◌≡◌, ◌*◌, ◌<◌, ◌≤◌, ◌^◌, List, ℕ, [], ◌∷◌, ◌++◌, length, IfOk, OnOk, OnErr, slice_get, slice_index_or, option_map};
 ghost use Rattle.std.specs.List.{AllByRecursion};
 ghost use Rattle.gv_logic.specs.Formulas.{Formula, IsFormula};
 
 use crate::Lit;
+use crate::lit_lists::LitLists;
 use gv_base::NoMemory;
 use std::alloc::Global;
 use std::marker::Model;
@@ -78,19 +79,19 @@ impl Clause {
 }
 
 /// Clauses over so many variables, numbered from 0: at most `2^32 - 1` of them, with literals of
-/// these variables alone.
+/// these variables alone, at most `2^32 - 1` in all.
 #[derive(Drop)]
 pub struct Clauses {
     variables: u32,
-    items: Vec<Clause>,
+    lists: LitLists,
 }
 
 impl Model for Clauses {
     ghost Value = { Formula };
 
-    ghost view = { λ c. record { variables = c.variables; clauses = c.items.items } };
+    ghost view = { λ c. record { variables = c.variables; clauses = c.lists } };
 
-    ghost invariant = { λ c. IsFormula (record { variables = c.variables; clauses = c.items.items }) };
+    ghost invariant = { λ c. IsFormula (record { variables = c.variables; clauses = c.lists }) };
 }
 
 impl Clauses {
@@ -100,50 +101,68 @@ impl Clauses {
     {
         Clauses {
             variables,
-            items: Vec::new(alloc),
+            lists: LitLists::new(alloc),
         }
     }
 
-    /// Adds a clause at the end. After an error the list is unchanged; a full list has no room
-    /// either.
-    pub fn add(&mut self, item: Clause) -> Result<(), NoMemory>
-        requires { AllByRecursion (λ lit. lit < 2 * self.old.variables) item }
-        ensures ok { OnOk result (self.new ≡ record self.old { clauses = self.old.clauses ++ item ∷ [] }) }
+    /// Adds the clause of these literals at the end. After an error the list is unchanged; a full
+    /// list has no room either. O(literals) on average.
+    pub fn add(&mut self, lits: &[Lit]) -> Result<(), NoMemory>
+        requires { AllByRecursion (λ lit. lit < 2 * self.old.variables) lits.now }
+        ensures ok { OnOk result (self.new ≡ record self.old { clauses = self.old.clauses ++ lits.now ∷ [] }) }
         ensures err { OnErr result (self.new ≡ self.old) }
     {
-        if self.items.len() >= u32::MAX as usize {
-            return Err(NoMemory);
-        }
-        self.items.push(item)?;
+        self.lists.add(lits)?;
         Ok(())
     }
 
-    /// The number of variables.
+    /// That the clauses are well formed, which is so of all clauses. It does nothing.
+    pub fn formed_law(&self)
+        ensures { IsFormula self.now }
+    {
+        let _ = &self.lists;
+    }
+
+    /// The number of variables. O(1).
     pub fn variables(&self) -> u32
         ensures { result ≡ self.now.variables }
     {
         self.variables
     }
 
-    /// The clauses in order.
-    pub fn items(&self) -> &[Clause]
-        ensures items { result.now ≡ self.now.clauses }
+    /// The number of clauses. O(1).
+    pub fn count(&self) -> u32
+        ensures count { result ≡ length self.now.clauses }
         ensures formed { IsFormula self.now }
     {
-        &self.items
+        self.lists.count()
+    }
+
+    /// The literals of the clause of this number, from 0. O(1).
+    pub fn at(&self, number: u32) -> &[Lit]
+        requires { number < length self.now.clauses }
+        ensures { (other : List ℕ) → result.now ≡ slice_index_or self.now.clauses number other }
+    {
+        self.lists.at(number)
+    }
+
+    /// The same; none where there are fewer clauses. O(1).
+    pub fn get(&self, number: u32) -> Option<&[Lit]>
+        ensures { slice_get self.now.clauses number ≡ option_map (λ lits. lits.now) result }
+    {
+        if number >= self.count() {
+            return None;
+        }
+        Some(self.at(number))
     }
 
     /// The same clauses once more. O(clauses and literals).
     pub fn copy(&self, alloc: Global) -> Result<Clauses, NoMemory>
         ensures { IfOk result (λ clauses. clauses ≡ self.now) }
     {
-        let mut items = Vec::with_capacity(alloc, self.items.len())?;
-        for item in &self.items {
-            items.push(item.copy(alloc)?)?;
-        }
         Ok(Clauses {
             variables: self.variables,
-            items,
+            lists: self.lists.copy(alloc)?,
         })
     }
 }

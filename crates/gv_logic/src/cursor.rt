@@ -4,7 +4,6 @@ ghost use Rattle.std.specs.Prelude.{◌≡◌, ◌+◌, ◌^◌, ◌<◌, ◌≤
 ghost use Rattle.gv_logic.specs.Bytes.{number_bytes};
 ghost use Rattle.gv_logic.specs.Cursor.{ReadsNumbers, ReadsOp, ReadsGate, ReadsGates};
 
-use crate::gates::Node;
 use crate::{GateList, Lit, Lits, Op};
 use gv_base::NoMemory;
 use std::alloc::Global;
@@ -125,11 +124,27 @@ impl<'a> Reader<'a> {
             let Some(node) = self.gate(alloc, 2 * (inputs + n), room)? else {
                 return Ok(None);
             };
-            room -= node.operands.items().len() as u32;
-            list.take(node)?;
+            let operands = node.operands.items();
+            room -= operands.len() as u32;
+            list.add(node.op, operands)?;
         }
         Ok(Some(list))
     }
+}
+
+// A gate as it was read.
+#[derive(Drop)]
+struct Node {
+    op: Op,
+    operands: Lits,
+}
+
+impl Model for Node {
+    ghost use Rattle.gv_logic.specs.Circuits.{Gate};
+
+    ghost Value = { Gate };
+
+    ghost view = { λ n. record { op = n.op; operands = n.operands } };
 }
 
 // The first four bytes as a number.

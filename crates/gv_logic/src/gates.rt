@@ -1,12 +1,13 @@
 //! Gates: inputs, And and Or over literals of earlier places, and a root.
 //!
-//! Each reader is O(1), and so is `GateList::add` beside the copy of its operands.
+//! Each reader is O(1), and so is `GateList::add`, on average, beside the copy of its operands.
 
 ghost use Rattle.std.specs.Prelude.{◌≡◌, ◌+◌, ◌*◌, ◌<◌, ◌≤◌, ◌^◌, [], ◌∷◌, ◌++◌, length, slice_index_or, IfOk, OnErr};
 ghost use Rattle.std.specs.List.{AllByRecursion};
 ghost use Rattle.gv_logic.specs.Circuits.{Gate, Draft, Circuit, IsDraft, IsCircuit, operand_count};
 
-use crate::{Lit, Lits};
+use crate::Lit;
+use crate::nodes::Nodes;
 use gv_base::NoMemory;
 use std::alloc::Global;
 use std::marker::Model;
@@ -27,19 +28,31 @@ pub enum Op {
 #[derive(Drop)]
 pub struct Gates {
     inputs: u32,
-    nodes: Vec<Node>,
+    nodes: Nodes,
     root: Lit,
 }
 
 impl Model for Gates {
     ghost Value = { Circuit };
 
-    ghost view = { λ g. record { inputs = g.inputs; gates = g.nodes.items; root = g.root } };
+    ghost view = { λ g. record { inputs = g.inputs; gates = g.nodes; root = g.root } };
 
-    ghost invariant = { λ g. IsCircuit (record { inputs = g.inputs; gates = g.nodes.items; root = g.root }) };
+    ghost invariant = { λ g. IsCircuit (record { inputs = g.inputs; gates = g.nodes; root = g.root }) };
 }
 
 impl Gates {
+    /// So many inputs, and gates of which this literal is the root. O(1).
+    pub fn of(inputs: u32, nodes: Nodes, root: Lit) -> Gates
+        requires { IsCircuit (record { inputs = inputs; gates = nodes; root = root }) }
+        ensures { result ≡ record { inputs = inputs; gates = nodes; root = root } }
+    {
+        Gates {
+            inputs,
+            nodes,
+            root,
+        }
+    }
+
     /// The number of inputs.
     pub fn inputs(&self) -> u32
         ensures inputs { result ≡ self.now.inputs }
@@ -53,7 +66,7 @@ impl Gates {
         ensures count { result ≡ length self.now.gates }
         ensures formed { IsCircuit self.now }
     {
-        self.nodes.len() as u32
+        self.nodes.count()
     }
 
     /// What gate n asks of its operands, from gate 0.
@@ -61,8 +74,7 @@ impl Gates {
         requires { n < length self.now.gates }
         ensures { (other : Gate) → result ≡ (slice_index_or self.now.gates n other).op }
     {
-        let node = &self.nodes[n as usize];
-        node.op
+        self.nodes.op(n)
     }
 
     /// The operands of gate n, from gate 0.
@@ -71,8 +83,7 @@ impl Gates {
         ensures operands { (other : Gate) → result.now ≡ (slice_index_or self.now.gates n other).operands }
         ensures few { length result.now < 2 ^ 32 }
     {
-        let node = &self.nodes[n as usize];
-        node.operands.items()
+        self.nodes.operands(n)
     }
 
     /// The literal whose value is that of the gates.
@@ -86,17 +97,16 @@ impl Gates {
 /// Gates in the making: inputs, and the gates so far.
 #[derive(Drop)]
 pub struct GateList {
-    alloc: Global,
     inputs: u32,
-    nodes: Vec<Node>,
+    nodes: Nodes,
 }
 
 impl Model for GateList {
     ghost Value = { Draft };
 
-    ghost view = { λ g. record { inputs = g.inputs; gates = g.nodes.items } };
+    ghost view = { λ g. record { inputs = g.inputs; gates = g.nodes } };
 
-    ghost invariant = { λ g. IsDraft (record { inputs = g.inputs; gates = g.nodes.items }) };
+    ghost invariant = { λ g. IsDraft (record { inputs = g.inputs; gates = g.nodes }) };
 }
 
 impl GateList {
@@ -106,9 +116,8 @@ impl GateList {
         ensures { result ≡ record { inputs = inputs; gates = [] } }
     {
         GateList {
-            alloc,
             inputs,
-            nodes: Vec::new(alloc),
+            nodes: Nodes::new(alloc),
         }
     }
 
@@ -121,21 +130,8 @@ impl GateList {
             × (self.new ≡ record self.old { gates = self.old.gates ++ record { op = op; operands = operands.now } ∷ [] })) }
         ensures err { OnErr result (self.new ≡ self.old) }
     {
-        let operands = Lits::of(self.alloc, operands)?;
-        self.take(Node { op, operands })
-    }
-
-    // `add` for a gate that is made.
-    pub(crate) fn take(&mut self, node: Node) -> Result<Lit, NoMemory>
-        requires earlier { AllByRecursion (λ l. l < 2 * (self.old.inputs + length self.old.gates)) node.operands }
-        requires places { self.old.inputs + length self.old.gates < 2 ^ 30 }
-        requires operands { operand_count self.old.gates + length node.operands ≤ 2 ^ 30 }
-        ensures ok { IfOk result (λ lit. (lit ≡ 2 * (self.old.inputs + length self.old.gates))
-            × (self.new ≡ record self.old { gates = self.old.gates ++ node ∷ [] })) }
-        ensures err { OnErr result (self.new ≡ self.old) }
-    {
-        let place = self.inputs + self.nodes.len() as u32;
-        self.nodes.push(node)?;
+        let place = self.inputs + self.nodes.count();
+        self.nodes.add(op, operands)?;
         Ok(Lit(2 * place))
     }
 
@@ -150,19 +146,4 @@ impl GateList {
             root,
         }
     }
-}
-
-// A gate as it is kept.
-#[derive(Drop)]
-pub(crate) struct Node {
-    pub(crate) op: Op,
-    pub(crate) operands: Lits,
-}
-
-impl Model for Node {
-    ghost use Rattle.gv_logic.specs.Circuits.{Gate};
-
-    ghost Value = { Gate };
-
-    ghost view = { λ n. record { op = n.op; operands = n.operands } };
 }

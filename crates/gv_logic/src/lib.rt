@@ -16,6 +16,8 @@ mod evaluate;
 mod gates;
 mod laws;
 mod lit;
+mod lit_lists;
+mod nodes;
 mod reading;
 #[cfg(test)]
 mod tests;
@@ -27,4 +29,5 @@ pub use evaluate::{value, values};
 pub use gates::{GateList, Gates, Op};
 pub use laws::circuit_law;
 pub use lit::{Lit, Lits, is_on};
+pub use nodes::Nodes;
 pub use reading::read_gates;

@@ -22,6 +22,15 @@ fn lists_keep_what_is_added(rt: HostRuntime) -> Result<(), Fail> {
     lits.add(Lit(2))?;
     lits.add(Lit(2).opposite())?;
     assert_eq!(rt; lits.copy(alloc)?.items(), [Lit(2), Lit(3)].as_slice());
+    let mut bits = Bits::new(alloc);
+    bits.add(true)?;
+    assert_eq!(rt; bits.copy(alloc)?.items(), [true].as_slice());
+    Ok(())
+}
+
+#[test]
+fn literals_are_on_or_off(rt: HostRuntime) -> Result<(), Fail> {
+    let alloc = rt.alloc();
     assert_eq!(rt;
         Lits::of(alloc, &[Lit(7).opposite()])?.items(),
         [Lit(6)].as_slice()
@@ -29,19 +38,29 @@ fn lists_keep_what_is_added(rt: HostRuntime) -> Result<(), Fail> {
     for (lit, value) in [(0, false), (1, true), (2, false)] {
         assert_eq!(rt; is_on(&[false, true], Lit(lit)), value, "literal {lit}");
     }
+    Ok(())
+}
+
+fn three_clauses(alloc: Global) -> Result<Clauses, NoMemory> {
     let mut clause = Clause::of(alloc, &[Lit(1)])?;
     clause.add(Lit(0))?;
-    assert_eq!(rt; clause.copy(alloc)?.items(), [Lit(1), Lit(0)].as_slice());
+    let clause = clause.copy(alloc)?;
     let mut clauses = Clauses::new(alloc, 1);
-    clauses.add(clause)?;
-    clauses.add(Clause::new(alloc))?;
-    let copied = clauses.copy(alloc)?;
-    assert_eq!(rt; copied.variables(), 1);
-    assert_eq!(rt; copied.items().len(), 2);
-    assert_eq!(rt; copied.items()[0].items(), [Lit(1), Lit(0)].as_slice());
-    let mut bits = Bits::new(alloc);
-    bits.add(true)?;
-    assert_eq!(rt; bits.copy(alloc)?.items(), [true].as_slice());
+    clauses.add(clause.items())?;
+    clauses.add(Clause::new(alloc).items())?;
+    clauses.add(&[Lit(0)])?;
+    clauses.copy(alloc)
+}
+
+#[test]
+fn clauses_are_read_by_number(rt: HostRuntime) -> Result<(), Fail> {
+    let clauses = three_clauses(rt.alloc())?;
+    assert_eq!(rt; clauses.variables(), 1);
+    assert_eq!(rt; clauses.count(), 3);
+    assert_eq!(rt; clauses.at(0), [Lit(1), Lit(0)].as_slice());
+    assert!(rt; clauses.at(1).is_empty());
+    assert_eq!(rt; clauses.at(2), [Lit(0)].as_slice());
+    assert!(rt; clauses.get(3).is_none());
     Ok(())
 }
 

@@ -17,7 +17,7 @@ ghost use Rattle.gv_refute.specs.Checker.{Judges};
 ghost use Rattle.gv_refute.specs.PrivateWords.{Starts};
 
 use crate::{Log, Marks, Step};
-use gv_logic::{Bits, Clause, Clauses, Lit};
+use gv_logic::{Bits, Clauses, Lit};
 
 /// What `check` says of a log.
 #[derive(Clone, Copy, Debug, PartialEq, Eq)]
@@ -38,7 +38,7 @@ pub fn check(clauses: &Clauses, log: &Log, marks: &mut Marks) -> Verdict
 {
     let steps = log.items();
     for i in 0..steps.len() {
-        if !step_follows(marks, clauses.items(), steps, i) {
+        if !step_follows(marks, clauses, steps, i) {
             return Verdict::Refused { step: i as u32 };
         }
     }
@@ -77,10 +77,10 @@ pub fn proves_least(log: &Log, bits: &Bits) -> bool
 }
 
 // Whether step i follows. Afterwards nothing is marked.
-fn step_follows(marks: &mut Marks, clauses: &[Clause], log: &[Step], i: usize) -> bool
+fn step_follows(marks: &mut Marks, clauses: &Clauses, log: &[Step], i: usize) -> bool
     requires step { i < length log.now }
     requires clean { marks.old ≡ replicate (length marks.old) false }
-    ensures follows { (other : LogStep) → result ≡ follows (length marks.old) (clauses.now ++ step_clauses (take i log.now))
+    ensures follows { (other : LogStep) → result ≡ follows (length marks.old) (clauses.now.clauses ++ step_clauses (take i log.now))
         (slice_index_or log.now i other).clause (slice_index_or log.now i other).hints }
     ensures clean { marks.new ≡ marks.old }
 {
@@ -110,19 +110,19 @@ fn start(marks: &mut Marks, lits: &[Lit]) -> bool
 }
 
 // Takes the hints in order: each but the last makes one literal true, and the last is false.
-fn refuted(marks: &mut Marks, clauses: &[Clause], log: &[Step], i: usize, hints: &[u32]) -> bool
+fn refuted(marks: &mut Marks, clauses: &Clauses, log: &[Step], i: usize, hints: &[u32]) -> bool
     requires { i ≤ length log.now }
-    ensures refuted { result ≡ refuted hints.now (clauses.now ++ step_clauses (take i log.now)) marks.old }
+    ensures refuted { result ≡ refuted hints.now (clauses.now.clauses ++ step_clauses (take i log.now)) marks.old }
     ensures count { length marks.new ≡ length marks.old }
 {
     for k in 0..hints.len() {
-        let Some(clause) = named(clauses, log, i, hints[k]) else {
+        let Some(lits) = named(clauses, log, i, hints[k]) else {
             return false;
         };
         if k + 1 == hints.len() {
-            return all_false(marks, clause.items());
+            return all_false(marks, lits);
         }
-        match unit_of(marks, clause.items()) {
+        match unit_of(marks, lits) {
             None => return false,
             Some(lit) => marks.set(lit),
         }
@@ -130,17 +130,18 @@ fn refuted(marks: &mut Marks, clauses: &[Clause], log: &[Step], i: usize, hints:
     false
 }
 
-// The clause that a hint of step i names: one of the clauses, or that of an earlier step.
-fn named<'a>(clauses: &'a [Clause], log: &'a [Step], i: usize, hint: u32) -> Option<&'a Clause>
+// The literals of the clause that a hint of step i names: one of the clauses, or that of an earlier
+// step.
+fn named<'a>(clauses: &'a Clauses, log: &'a [Step], i: usize, hint: u32) -> Option<&'a [Lit]>
     requires { i ≤ length log.now }
-    ensures { slice_get (clauses.now ++ step_clauses (take i log.now)) hint ≡ option_map (λ c. c.now) result }
+    ensures { slice_get (clauses.now.clauses ++ step_clauses (take i log.now)) hint ≡ option_map (λ c. c.now) result }
 {
-    let number = hint as usize;
-    if number < clauses.len() {
-        Some(&clauses[number])
-    } else if number - clauses.len() < i {
-        let step = &log[number - clauses.len()];
-        Some(&step.clause)
+    let count = clauses.count();
+    if hint < count {
+        Some(clauses.at(hint))
+    } else if ((hint - count) as usize) < i {
+        let step = &log[(hint - count) as usize];
+        Some(step.clause.items())
     } else {
         None
     }

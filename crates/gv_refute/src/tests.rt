@@ -37,8 +37,8 @@ fn log_of(alloc: Global, steps: &[Written]) -> Result<Log, NoMemory> {
 fn a_log_over_or_of_nothing(rt: HostRuntime) -> Result<(), Fail> {
     let alloc = rt.alloc();
     let mut clauses = Clauses::new(alloc, 1);
-    clauses.add(Clause::of(alloc, &[Lit(1)])?)?;
-    clauses.add(Clause::of(alloc, &[Lit(0)])?)?;
+    clauses.add(&[Lit(1)])?;
+    clauses.add(&[Lit(0)])?;
     let mut marks = Marks::new(alloc, 1)?;
     let none = log_of(alloc, &[(&[], &[1, 0])])?;
     assert!(rt; proves_none(&none));
@@ -60,7 +60,7 @@ fn a_log_over_or_of_nothing(rt: HostRuntime) -> Result<(), Fail> {
 fn the_step_that_proves_one_bit_least(rt: HostRuntime) -> Result<(), Fail> {
     let alloc = rt.alloc();
     let mut clauses = Clauses::new(alloc, 1);
-    clauses.add(Clause::of(alloc, &[Lit(0)])?)?;
+    clauses.add(&[Lit(0)])?;
     let mut marks = Marks::new(alloc, 1)?;
     let least = log_of(alloc, &[(&[0], &[0])])?;
     assert_eq!(rt; check(&clauses, &least, &mut marks), Verdict::Accepted);
@@ -73,11 +73,11 @@ fn the_step_that_proves_one_bit_least(rt: HostRuntime) -> Result<(), Fail> {
 fn steps_that_follow_and_steps_that_do_not(rt: HostRuntime) -> Result<(), Fail> {
     let alloc = rt.alloc();
     let mut clauses = Clauses::new(alloc, 3);
-    clauses.add(Clause::of(alloc, &[Lit(0), Lit(2)])?)?;
-    clauses.add(Clause::of(alloc, &[Lit(0), Lit(3)])?)?;
-    clauses.add(Clause::of(alloc, &[Lit(1), Lit(4), Lit(4)])?)?;
-    clauses.add(Clause::of(alloc, &[Lit(5), Lit(1)])?)?;
-    clauses.add(Clause::of(alloc, &[Lit(2), Lit(3)])?)?;
+    clauses.add(&[Lit(0), Lit(2)])?;
+    clauses.add(&[Lit(0), Lit(3)])?;
+    clauses.add(&[Lit(1), Lit(4), Lit(4)])?;
+    clauses.add(&[Lit(5), Lit(1)])?;
+    clauses.add(&[Lit(2), Lit(3)])?;
     let cases: [(&str, &[Written], Option<u32>); 15] = [
         ("no steps", &[], None),
         ("one unit and a false clause", &[(&[0], &[0, 1])], None),

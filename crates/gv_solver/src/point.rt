@@ -93,8 +93,8 @@ impl Way {
         ensures needs { NeedsClause (assignment trail.now) (slice_get clauses.now.clauses number) self.old self.new }
         ensures counts { CountsClause trail.now (slice_get clauses.now.clauses number) self.old self.new }
     {
-        if let Some(clause) = clauses.items().get(number as usize) {
-            self.need_all(trail, clause.items());
+        if let Some(lits) = clauses.get(number) {
+            self.need_all(trail, lits);
         }
     }
 

@@ -39,8 +39,8 @@ fn mark_against(marks: &mut Vec<bool>, lits: &[Lit])
 fn mark_clause(marks: &mut Vec<bool>, clauses: &Clauses, number: u32)
     ensures { marks.new.items ≡ against_clause marks.old.items (slice_get clauses.now.clauses number) }
 {
-    if let Some(clause) = clauses.items().get(number as usize) {
-        mark_against(marks, clause.items());
+    if let Some(lits) = clauses.get(number) {
+        mark_against(marks, lits);
     }
 }
 

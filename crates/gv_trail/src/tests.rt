@@ -7,24 +7,19 @@ ghost use Rattle.gv_trail.specs.Derived.{IsTrail};
 
 use crate::{Propagation, Trail};
 use gv_base::NoMemory;
-use gv_logic::{Clause, Clauses, Lit};
+use gv_logic::{Clauses, Lit};
 use std::alloc::Global;
 use std::test::Fail;
 
 // Adds a clause and attaches it.
-fn attach(
-    alloc: Global,
-    trail: &mut Trail,
-    clauses: &mut Clauses,
-    lits: &[Lit],
-) -> Result<(), NoMemory>
+fn attach(trail: &mut Trail, clauses: &mut Clauses, lits: &[Lit]) -> Result<(), NoMemory>
     requires range { AllByRecursion (λ lit. lit < 2 * clauses.old.variables) lits.now }
     requires over { IsTrail clauses.old trail.old }
     ensures variables { clauses.new.variables ≡ clauses.old.variables }
     ensures over { OnOk result (IsTrail clauses.new trail.new) }
 {
-    let number = clauses.items().len() as u32;
-    clauses.add(Clause::of(alloc, lits)?)?;
+    let number = clauses.count();
+    clauses.add(lits)?;
     trail.attach(clauses, number)
 }
 
@@ -44,8 +39,8 @@ fn put_on(trail: &mut Trail, lit: Lit)
 fn a_trail_follows_its_clauses(rt: HostRuntime) -> Result<(), Fail> {
     let alloc = rt.alloc();
     let mut clauses = Clauses::new(alloc, 3);
-    clauses.add(Clause::of(alloc, &[Lit(1), Lit(2), Lit(2)])?)?;
-    clauses.add(Clause::of(alloc, &[Lit(3), Lit(4)])?)?;
+    clauses.add(&[Lit(1), Lit(2), Lit(2)])?;
+    clauses.add(&[Lit(3), Lit(4)])?;
     let mut trail = Trail::new(alloc, &clauses)?;
     assert_eq!(rt; trail.propagate(&clauses), Propagation::Fixed);
     assert_eq!(rt; trail.assigned().len(), 0);
@@ -68,9 +63,9 @@ fn a_trail_follows_its_clauses(rt: HostRuntime) -> Result<(), Fail> {
     trail.back_to(0);
     assert_eq!(rt; trail.of(Lit(2)), None);
     assert_eq!(rt; trail.level_of(Lit(0)), None);
-    attach(alloc, &mut trail, &mut clauses, &[Lit(5)])?;
-    attach(alloc, &mut trail, &mut clauses, &[])?;
-    attach(alloc, &mut trail, &mut clauses, &[Lit(4)])?;
+    attach(&mut trail, &mut clauses, &[Lit(5)])?;
+    attach(&mut trail, &mut clauses, &[])?;
+    attach(&mut trail, &mut clauses, &[Lit(4)])?;
     assert_eq!(rt;
         trail.propagate(&clauses),
         Propagation::Conflict { clause: 3 }
@@ -83,11 +78,11 @@ fn a_trail_follows_its_clauses(rt: HostRuntime) -> Result<(), Fail> {
 fn a_clause_that_is_false_when_attached_is_named(rt: HostRuntime) -> Result<(), Fail> {
     let alloc = rt.alloc();
     let mut clauses = Clauses::new(alloc, 3);
-    clauses.add(Clause::of(alloc, &[Lit(1), Lit(2)])?)?;
+    clauses.add(&[Lit(1), Lit(2)])?;
     let mut trail = Trail::new(alloc, &clauses)?;
     put_on(&mut trail, Lit(0));
     assert_eq!(rt; trail.propagate(&clauses), Propagation::Fixed);
-    attach(alloc, &mut trail, &mut clauses, &[Lit(1), Lit(3)])?;
+    attach(&mut trail, &mut clauses, &[Lit(1), Lit(3)])?;
     assert_eq!(rt;
         trail.propagate(&clauses),
         Propagation::Conflict { clause: 1 }
@@ -103,9 +98,9 @@ fn a_clause_that_is_false_when_attached_is_named(rt: HostRuntime) -> Result<(), 
             || before == Propagation::Conflict { clause: 1 },
         true
     );
-    attach(alloc, &mut trail, &mut clauses, &[])?;
-    attach(alloc, &mut trail, &mut clauses, &[Lit(4)])?;
-    attach(alloc, &mut trail, &mut clauses, &[Lit(1), Lit(1)])?;
+    attach(&mut trail, &mut clauses, &[])?;
+    attach(&mut trail, &mut clauses, &[Lit(4)])?;
+    attach(&mut trail, &mut clauses, &[Lit(1), Lit(1)])?;
     let said = trail.propagate(&clauses);
     assert_eq!(rt;
         said == before
@@ -144,12 +139,7 @@ impl Draws {
 
 // Attaches a clause of four literals at most, now and then an empty one, in whatever state the trail
 // is.
-fn attach_drawn(
-    alloc: Global,
-    draws: &mut Draws,
-    trail: &mut Trail,
-    clauses: &mut Clauses,
-) -> Result<(), NoMemory>
+fn attach_drawn(draws: &mut Draws, trail: &mut Trail, clauses: &mut Clauses) -> Result<(), NoMemory>
     requires six { clauses.old.variables ≡ 6 }
     requires over { IsTrail clauses.old trail.old }
     ensures six { clauses.new.variables ≡ 6 }
@@ -157,11 +147,11 @@ fn attach_drawn(
 {
     let lits = [draws.lit(), draws.lit(), draws.lit(), draws.lit()];
     match draws.below(32) {
-        0 => attach(alloc, trail, clauses, &[]),
-        1..4 => attach(alloc, trail, clauses, &[lits[0]]),
-        4..16 => attach(alloc, trail, clauses, &[lits[0], lits[1]]),
-        16..28 => attach(alloc, trail, clauses, &[lits[0], lits[1], lits[2]]),
-        _ => attach(alloc, trail, clauses, &lits),
+        0 => attach(trail, clauses, &[]),
+        1..4 => attach(trail, clauses, &[lits[0]]),
+        4..16 => attach(trail, clauses, &[lits[0], lits[1]]),
+        16..28 => attach(trail, clauses, &[lits[0], lits[1], lits[2]]),
+        _ => attach(trail, clauses, &lits),
     }
 }
 
@@ -189,16 +179,25 @@ fn is_quiet(trail: &Trail, lits: &[Lit]) -> bool {
     false
 }
 
+fn all_quiet(trail: &Trail, clauses: &Clauses) -> bool {
+    for number in 0..clauses.count() {
+        if !is_quiet(trail, clauses.at(number)) {
+            return false;
+        }
+    }
+    true
+}
+
 // Whether each literal that is true was decided, or the others of its reason are false.
 fn is_explained(trail: &Trail, clauses: &Clauses) -> bool {
     for lit in trail.assigned() {
         let Some(number) = trail.reason(*lit) else {
             continue;
         };
-        let Some(reason) = clauses.items().get(number as usize) else {
+        let Some(reason) = clauses.get(number) else {
             return false;
         };
-        for other in reason.items() {
+        for other in reason {
             if other != lit && trail.of(*other) != Some(false) {
                 return false;
             }
@@ -217,9 +216,9 @@ fn answers_rightly(trail: &mut Trail, clauses: &Clauses) -> bool
         return false;
     }
     match said {
-        Propagation::Fixed => clauses.items().iter().all(|c| is_quiet(trail, c.items())),
-        Propagation::Conflict { clause } => match clauses.items().get(clause as usize) {
-            Some(named) => is_false(trail, named.items()),
+        Propagation::Fixed => all_quiet(trail, clauses),
+        Propagation::Conflict { clause } => match clauses.get(clause) {
+            Some(named) => is_false(trail, named),
             None => false,
         },
     }
@@ -234,12 +233,7 @@ fn go_back(draws: &mut Draws, trail: &mut Trail)
 }
 
 // One call, drawn; whether what it answered is so.
-fn one_call(
-    alloc: Global,
-    draws: &mut Draws,
-    trail: &mut Trail,
-    clauses: &mut Clauses,
-) -> Result<bool, NoMemory>
+fn one_call(draws: &mut Draws, trail: &mut Trail, clauses: &mut Clauses) -> Result<bool, NoMemory>
     requires six { clauses.old.variables ≡ 6 }
     requires over { IsTrail clauses.old trail.old }
     ensures six { clauses.new.variables ≡ 6 }
@@ -247,7 +241,7 @@ fn one_call(
 {
     match draws.below(8) {
         0 | 1 => {
-            attach_drawn(alloc, draws, trail, clauses)?;
+            attach_drawn(draws, trail, clauses)?;
             Ok(true)
         }
         2 | 3 => {
@@ -266,7 +260,7 @@ fn one_run(alloc: Global, draws: &mut Draws) -> Result<bool, NoMemory> {
     let mut clauses = Clauses::new(alloc, 6);
     let mut trail = Trail::new(alloc, &clauses)?;
     for _ in 0..60 {
-        if !one_call(alloc, draws, &mut trail, &mut clauses)? {
+        if !one_call(draws, &mut trail, &mut clauses)? {
             return Ok(false);
         }
     }

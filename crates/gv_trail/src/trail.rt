@@ -18,7 +18,7 @@ use crate::look::{Look, Picked, find_open, look_at, pick};
 use crate::propagation::Sweep;
 use crate::watches::{Watches, sibling};
 use gv_base::NoMemory;
-use gv_logic::{Clause, Clauses, Lit, is_on};
+use gv_logic::{Clauses, Lit, is_on};
 use std::alloc::Global;
 use std::marker::Model;
 
@@ -61,9 +61,9 @@ impl Trail {
         ensures level { IfOk result (λ trail. trail.level ≡ 0) }
         ensures over { IfOk result (IsTrail clauses.now) }
     {
-        let room = clauses.items().len().saturating_mul(2);
+        let count = clauses.count();
+        let room = (count as usize).saturating_mul(2);
         let mut trail = Trail::empty(alloc, clauses.variables(), room)?;
-        let count = clauses.items().len() as u32;
         for number in 0..count {
             trail.hold(clauses, number)?;
         }
@@ -225,8 +225,8 @@ impl Trail {
         if number > u32::MAX / 2 - 1 {
             return Err(NoMemory);
         }
-        let items = clauses.items();
-        match pick(&self.on, &self.causes, items[number as usize].items()) {
+        clauses.formed_law();
+        match pick(&self.on, &self.causes, clauses.at(number)) {
             Some(picked) => self.watch(picked),
             None => self.keep_apart(number),
         }
@@ -366,7 +366,7 @@ impl Trail {
         requires some { 0 < Waits self.old }
         ensures { Looks clauses.now self.old self.new result }
     {
-        let items = clauses.items();
+        clauses.formed_law();
         let watch = self.first_waiting();
         let lit = self.lit_of(watch);
         let other = self.lit_of(sibling(watch));
@@ -379,7 +379,7 @@ impl Trail {
             return None;
         }
         let number = watch / 2;
-        match self.find_open(other, items[number as usize].items()) {
+        match self.find_open(other, clauses.at(number)) {
             Some(to) => {
                 self.requeue(to);
                 None
@@ -450,16 +450,16 @@ impl Trail {
     }
 
     // Looks at a clause, and assigns what it asks for.
-    fn settle(&mut self, clauses: &[Clause], number: u32) -> Sweep
-        requires { InRange (2 * self.old.variables) clauses.now }
-        ensures adds { Propagates clauses.now self.old self.new }
+    fn settle(&mut self, clauses: &Clauses, number: u32) -> Sweep
+        requires { InRange (2 * self.old.variables) clauses.now.clauses }
+        ensures adds { Propagates clauses.now.clauses self.old self.new }
         ensures watched { self.new.watched ≡ self.old.watched }
-        ensures settles { Settles clauses.now number self.old self.new result }
+        ensures settles { Settles clauses.now.clauses number self.old self.new result }
     {
         let level = self.level;
-        match clauses.get(number as usize) {
+        match clauses.get(number) {
             None => Sweep::Nothing,
-            Some(clause) => match look_at(&self.on, clause.items()) {
+            Some(lits) => match look_at(&self.on, lits) {
                 Look::Quiet => Sweep::Nothing,
                 Look::AllFalse => Sweep::Falsified(number),
                 Look::OneLeft(lit) => {
@@ -483,12 +483,12 @@ impl Trail {
         ensures watched { self.new.watched ≡ self.old.watched }
         ensures says { Sweeps clauses.now.clauses self.old self.new result }
     {
-        let items = clauses.items();
+        clauses.formed_law();
         let mut assigned = false;
         let mut at = 0;
         while at < self.apart().len() {
             let number = self.apart()[at];
-            match self.settle(items, number) {
+            match self.settle(clauses, number) {
                 Sweep::Nothing => {}
                 Sweep::Falsified(clause) => return Sweep::Falsified(clause),
                 Sweep::Assigned => assigned = true,

@@ -4,6 +4,6 @@ use Rattle.gv_refute.proofs.checker.refuted.Given as goal
 
 abbrev pub invariant-loop-k : goal.invariant-loop-k
 invariant-loop-k l = record {
-  refuted : refuted (drop l.k l.hints) (l.clauses ++ step_clauses (take l.i l.log)) l.marks ≡ refuted l.hints (l.clauses ++ step_clauses (take l.i l.log)) l.initial.marks;
+  refuted : refuted (drop l.k l.hints) (l.clauses.clauses ++ step_clauses (take l.i l.log)) l.marks ≡ refuted l.hints (l.clauses.clauses ++ step_clauses (take l.i l.log)) l.initial.marks;
   count : length l.marks ≡ length l.initial.marks;
 }

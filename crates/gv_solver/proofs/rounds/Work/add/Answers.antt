@@ -18,5 +18,5 @@ returns-clause-open c o n =
       variables = c.in_ok-attach.ensures.over.variables ∙ ap (λ (f : Formula). f.variables) c.in_ok-add.ensures.ok ∙ sym c.requires.ready.over.variables;
       entries = c.in_ok-attach.ensures.entries;
     } in
-    let clauses : c.add.new.self.clauses ≡ c.args.self.now.clauses.clauses ++ c.args.step.clause ∷ [] = ap (λ (f : Formula). f.clauses) c.in_ok-add.ensures.ok ∙ ap (λ x. c.args.self.now.clauses.clauses ++ x ∷ []) (c.in_ok-clause.ensures ∙ ap (λ (s : Step). s.clause) c.step.view_is) in
+    let clauses : c.add.new.self.clauses ≡ c.args.self.now.clauses.clauses ++ c.args.step.clause ∷ [] = ap (λ (f : Formula). f.clauses) c.in_ok-add.ensures.ok ∙ ap (λ x. c.args.self.now.clauses.clauses ++ x ∷ []) (c.items.ensures.items ∙ ap (λ (s : Step). s.clause) c.step.view_is) in
     subst (λ z. NoneFalse z (assignment c.attach.new.self)) (sym clauses) (attached c.args.self.now.clauses.clauses c.args.step.clause c.args.trail.now c.attach.new.self same o n)
