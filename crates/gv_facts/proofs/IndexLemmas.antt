@@ -2,34 +2,25 @@
 use Rattle.std.proofs.Common.{◌≡◌, ℕ, Bool, true, false, cond, ◌&&◌, List, [], ◌∷◌, ◌++◌, Some, None, refl, sym, ap, subst, ◌∙◌}
 use Rattle.std.specs.Prelude.{Option, Result, Ok, Err, OnErr, unwrap_or, if◌then◌else◌}
 use Rattle.std.proofs.lemmas.Bool.{false≢true}
-use Rattle.std.proofs.lemmas.Map.Text.{is_eq-slice_cmp}
-use Rattle.std.specs.BTreeMap.{insert_entry}
 use Rattle.std.specs.Cmp.Lexicographic.{same_text}
 use Rattle.std.specs.declared.alloc.Global.{Global}
-use Rattle.std.specs.declared.cmp.Ordering.{Ordering}
-use Rattle.std.specs.declared.cmp.Ordering.TheVariants.{Less, Equal, Greater}
 use Rattle.std.specs.declared.vec.Vec.{Vec}
 use Rattle.std.specs.Map.{lookup, set_value}
 use Rattle.std.specs.Option.{option_map_or}
-use Rattle.std.specs.Ordering.{is_eq, match_ordering}
 use Rattle.std.specs.Str.{bytes_eq}
-use Rattle.gv_base.specs.Order.{byte_cmp}
+use Rattle.indexmap.specs.IndexMap.{insert_entry}
 use Rattle.gv_facts.specs.declared.index.Index.{Index}
 use Rattle.gv_facts.specs.Index.{is_key, places_at}
 
 abbrev Bytes : Type 0
 Bytes = Vec ℕ Global
 
-abbrev key_cmp : Bytes → Bytes → Ordering
-key_cmp x y = byte_cmp x.items y.items
-
-is_key_eq : (q : List ℕ) (k : Bytes) → is_key q k ≡ bytes_eq q k.items
-is_key_eq q k = is_eq-slice_cmp q k.items
+abbrev key_eq : Bytes → Bytes → Bool
+key_eq x y = bytes_eq x.items y.items
 
 -- a key that equals one text equals another where the texts are equal
 other_key : (q key : List ℕ) (k : Bytes) → is_key key k ≡ true → is_key q k ≡ bytes_eq q key
-other_key q key k hit =
-    is_key_eq q k ∙ ap (bytes_eq q) (sym (same_text key k.items (sym hit ∙ is_key_eq key k)))
+other_key q key k hit = ap (bytes_eq q) (sym (same_text key k.items (sym hit)))
 
 module _ {X : Type 0} where
   -- one key has a value now, and the others have theirs
@@ -58,34 +49,29 @@ module _ {X : Type 0} where
               apart false f = refl
           there_or false h l = l
 
-  insert_sets : (es : List (Bytes × X)) (k : Bytes) (w : X) → Sets es (insert_entry key_cmp es k w) k.items w
-  insert_sets [] k w q = rw (is_key_eq q k) (here (bytes_eq q k.items))
+  insert_sets : (es : List (Bytes × X)) (k : Bytes) (w : X) → Sets es (insert_entry key_eq es k w) k.items w
+  insert_sets [] k w q = here (bytes_eq q k.items)
     where
       here : (s : Bool) → cond s (Some w) None ≡ (if s then Some w else None)
       here true = refl
       here false = refl
-  insert_sets (e ∷ es) k w q = by (byte_cmp k.items e.0.items) refl (insert_sets es k w q)
+  insert_sets (e ∷ es) k w q = by (key_eq k e.0) refl (insert_sets es k w q)
     where
-      at_front : (s : Bool) (o : Option X) → cond s (Some w) o ≡ (if s then Some w else o)
-      at_front true o = refl
-      at_front false o = refl
-
-      by : (o : Ordering) → byte_cmp k.items e.0.items ≡ o → lookup (is_key q) (insert_entry key_cmp es k w) ≡ (if bytes_eq q k.items then Some w else lookup (is_key q) es)
-          → lookup (is_key q) (match_ordering o ((k, w) ∷ e ∷ es) ((e.0, w) ∷ es) (e ∷ insert_entry key_cmp es k w)) ≡ (if bytes_eq q k.items then Some w else lookup (is_key q) (e ∷ es))
-      by Less is later = rw (is_key_eq q k) (at_front (bytes_eq q k.items) (lookup (is_key q) (e ∷ es)))
-      by Equal is later = rw (other_key q k.items e.0 (ap is_eq is)) (here (bytes_eq q k.items))
+      by : (b : Bool) → key_eq k e.0 ≡ b → lookup (is_key q) (insert_entry key_eq es k w) ≡ (if bytes_eq q k.items then Some w else lookup (is_key q) es)
+          → lookup (is_key q) (if b then (e.0, w) ∷ es else e ∷ insert_entry key_eq es k w) ≡ (if bytes_eq q k.items then Some w else lookup (is_key q) (e ∷ es))
+      by true hit later = rw (other_key q k.items e.0 hit) (here (bytes_eq q k.items))
         where
           here : (s : Bool) → cond s (Some w) (lookup (is_key q) es) ≡ (if s then Some w else cond s (Some e.1) (lookup (is_key q) es))
           here true = refl
           here false = refl
-      by Greater is later = there_or (is_key q e.0) refl later
+      by false miss later = there_or (is_key q e.0) refl later
         where
-          there_or : (s : Bool) → is_key q e.0 ≡ s → lookup (is_key q) (insert_entry key_cmp es k w) ≡ (if bytes_eq q k.items then Some w else lookup (is_key q) es)
-              → cond s (Some e.1) (lookup (is_key q) (insert_entry key_cmp es k w)) ≡ (if bytes_eq q k.items then Some w else cond s (Some e.1) (lookup (is_key q) es))
+          there_or : (s : Bool) → is_key q e.0 ≡ s → lookup (is_key q) (insert_entry key_eq es k w) ≡ (if bytes_eq q k.items then Some w else lookup (is_key q) es)
+              → cond s (Some e.1) (lookup (is_key q) (insert_entry key_eq es k w)) ≡ (if bytes_eq q k.items then Some w else cond s (Some e.1) (lookup (is_key q) es))
           there_or true h l = rw (apart (bytes_eq q k.items) refl) refl
             where
               apart : (s : Bool) → bytes_eq q k.items ≡ s → s ≡ false
-              apart true f = absurd (false≢true (sym (ap is_eq is) ∙ (ap (λ z. is_key z e.0) (sym (same_text q k.items (sym f))) ∙ h)))
+              apart true f = absurd (false≢true (sym miss ∙ (ap (λ z. is_key z e.0) (sym (same_text q k.items (sym f))) ∙ h)))
               apart false f = refl
           there_or false h l = l
 
@@ -94,7 +80,7 @@ module _ {X : Type 0} where
   set_entry es fs key w old there is = subst (λ xs. Sets es xs key w) (sym is) (set_sets es key w old there)
 
   -- what an entry came to
-  pub new_entry : (es fs : List (Bytes × X)) (key : List ℕ) (k : Bytes) (w : X) → fs ≡ insert_entry key_cmp es k w → k.items ≡ key → Sets es fs key w
+  pub new_entry : (es fs : List (Bytes × X)) (key : List ℕ) (k : Bytes) (w : X) → fs ≡ insert_entry key_eq es k w → k.items ≡ key → Sets es fs key w
   new_entry es fs key k w is same =
       subst (λ bytes. Sets es fs bytes w) same (subst (λ xs. Sets es xs k.items w) (sym is) (insert_sets es k w))
 

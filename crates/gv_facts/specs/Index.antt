@@ -2,10 +2,9 @@
 use Rattle.std.specs.Prelude.{◌≡◌, ℕ, Bool, List, [], unwrap_or}
 use Rattle.std.specs.declared.vec.Vec.{Vec}
 use Rattle.std.specs.declared.alloc.Global.{Global}
-use Rattle.std.specs.BTreeMap.{is_at}
 use Rattle.std.specs.Map.{lookup}
 use Rattle.std.specs.Option.{option_map_or}
-use Rattle.gv_base.specs.Order.{byte_cmp}
+use Rattle.std.specs.Str.{bytes_eq}
 use Rattle.gv_facts.specs.declared.index.Index.{Index}
 use Rattle.gv_facts.specs.declared.index.PairIndex.{PairIndex}
 use Rattle.gv_facts.specs.declared.masks.Mask.{Mask}
@@ -15,7 +14,7 @@ use Rattle.gv_facts.specs.Places.{names_flag, is_mask_of, is_pkg_of, places_of}
 
 -- whether a key has these bytes
 abbrev pub is_key : List ℕ → Vec ℕ Global → Bool
-is_key bytes key = is_at (λ (k : Vec ℕ Global). byte_cmp bytes k.items) key
+is_key bytes key = bytes_eq bytes key.items
 
 -- the places at a name
 abbrev pub places_at : Index → List ℕ → List ℕ

@@ -1,14 +1,14 @@
-//! Places of items by their names, in ordered trees.
+//! Places of items by their names, in hash maps.
 //!
-//! A look-up takes no memory and costs O(log n) comparisons of names for n names; an addition costs as much, and copies
-//! a name the first time that it comes.
+//! A look-up takes no memory and costs O(bytes) of a name, on average whatever the number of names; an addition costs as much,
+//! and copies a name the first time that it comes.
 ghost use Rattle.std.specs.Prelude.{◌≡◌, ◌++◌, ◌∷◌, [], ℕ, List, ◌&&◌, if◌then◌else◌, IfOk, OnOk, OnErr};
 ghost use Rattle.std.specs.Str.{bytes_eq};
 ghost use Rattle.gv_facts.specs.Index.{pair_places, places_at};
 
 use gv_base::NoMemory;
+use indexmap::IndexMap;
 use std::alloc::Global;
-use std::collections::BTreeMap;
 use std::marker::Model;
 
 /// The places of one name: numbers of items of a list, from 0, in the order in which they were added.
@@ -63,7 +63,7 @@ pub fn next_place(len: usize) -> Result<u32, NoMemory>
 #[derive(Drop)]
 pub struct Index {
     alloc: Global,
-    map: BTreeMap<Vec<u8>, Places>,
+    map: IndexMap<Vec<u8>, Places>,
 }
 
 impl Index {
@@ -73,7 +73,7 @@ impl Index {
     {
         Index {
             alloc,
-            map: BTreeMap::new(alloc),
+            map: IndexMap::new(alloc),
         }
     }
 
@@ -109,7 +109,7 @@ impl Index {
 #[derive(Drop)]
 pub struct PairIndex {
     alloc: Global,
-    map: BTreeMap<Vec<u8>, Index>,
+    map: IndexMap<Vec<u8>, Index>,
 }
 
 impl PairIndex {
@@ -119,7 +119,7 @@ impl PairIndex {
     {
         PairIndex {
             alloc,
-            map: BTreeMap::new(alloc),
+            map: IndexMap::new(alloc),
         }
     }
 
