@@ -199,7 +199,7 @@ impl<'a, F: Fn(&Pkg) -> bool> Candidates<'a, F> {
         ensures { option_copied result ≡ shown_at (profile_of self.now) (level_of self.now) atom.now (pkgs_of self.now) place }
     {
         match self.pkgs().items().get(place as usize) {
-            Some(pkg) if matches_pkg(atom, pkg) && self.is_visible(place, pkg) => Some(pkg),
+            Some(pkg) if self.is_visible(place, pkg) && matches_pkg(atom, pkg) => Some(pkg),
             _ => None,
         }
     }
