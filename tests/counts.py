@@ -31,7 +31,7 @@ MOST = 1.5
 # compiler left standing, since it may write a function into its one caller.
 SOLVES = ("gv_solver::solver::search", "gv_solver::solver::solve", "gv_query::asking::ask", "gv_encode::encoding::encode",
           "gv_query::records::backed_among")
-LOWERS = ("gv_lower::finish::finish",)
+LOWERS = ("gv_lower::sketch::Sketch::begin", "gv_lower::sketch::Sketch::finish", "gv_lower::flags::free_flags")
 TAKES = ("rattle_alloc", "rattle_realloc")
 EMPTY = hashlib.md5(b"").hexdigest()
 

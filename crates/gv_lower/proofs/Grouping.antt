@@ -12,10 +12,9 @@ use Rattle.std.specs.Str.{bytes_eq}
 use Rattle.gv_base.specs.Order.{has_text}
 use Rattle.gv_atom.specs.declared.items.UseItem.{UseItem}
 use Rattle.gv_lower.specs.AtomGates.{asked_by, first_named, naming}
-use Rattle.gv_lower.specs.Asks.{ask_from, ask_of, asks_of, item_side}
+use Rattle.gv_lower.specs.Asks.{FlagAsks, ask_from, ask_of, asks_of, item_side}
 use Rattle.gv_lower.specs.Chained.{HasFlag, next_naming}
 use Rattle.gv_lower.specs.TreeGates.{Base}
-use Rattle.gv_lower.specs.declared.asks.FlagAsks.{FlagAsks}
 use Rattle.gv_lower.specs.declared.asks.Side.{Side}
 use Rattle.gv_lower.proofs.Chaining.{found_from, from_first, none_from}
 

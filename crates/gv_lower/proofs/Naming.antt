@@ -1,4 +1,4 @@
--- What is shown of an atom weighs at most as much as all packages of its name.
+-- What is shown of an atom weighs at most as much as all packages of its name, and these at most as much as all packages.
 use Rattle.std.proofs.Common.{◌≡◌, ℕ, ◌+◌, ◌*◌, ◌≤◌, Bool, true, false, cond, ◌&&◌, List, [], ◌∷◌, length, filter, map, refl, sym, ap, ◌∙◌, arith}
 use Rattle.std.specs.Prelude.{slice_get, sum_by, Some}
 use Rattle.std.proofs.Math.Nat.{mul-suc, mul-zero}
@@ -14,7 +14,7 @@ use Rattle.gv_facts.specs.Places.{is_pkg_of}
 use Rattle.gv_facts.specs.Visible.{matches_pkg, visible}
 use Rattle.gv_facts.specs.declared.pkg.Pkg.{Pkg}
 use Rattle.gv_lower.specs.Weights.{capped, class_weight, packages_weight}
-use Rattle.gv_lower.specs.declared.weigh.Counted.TheVariants.{Named, Shown}
+use Rattle.gv_lower.specs.declared.weigh.Counted.TheVariants.{Every, Named, Shown}
 
 module _ {X : Type 0} (k : ℕ) (some more : X → Bool) (within : (x : X) → some x ≡ true → more x ≡ true) where
   fewer : (xs : List X) → sum_by (λ (x : X). k) (filter some xs) ≤ sum_by (λ (x : X). k) (filter more xs)
@@ -46,6 +46,23 @@ atoms_less c (a ∷ atoms) =
 pub class_less : (c : Parent) (ts : Deps) → class_weight Shown c ts ≤ class_weight Named c ts
 class_less c ts = omega (arith, atoms_less c (wanted_atoms ts))
 
+some_of_all : {X : Type 0} (k : ℕ) (some : X → Bool) (xs : List X) → sum_by (λ (x : X). k) (filter some xs) ≤ sum_by (λ (x : X). k) xs
+some_of_all k some [] = omega arith
+some_of_all {X} k some (x ∷ xs) = by (some x) (some_of_all k some xs)
+  where
+    by : (p : Bool) → sum_by (λ (x : X). k) (filter some xs) ≤ sum_by (λ (x : X). k) xs
+        → sum_by (λ (x : X). k) (cond p (x ∷ filter some xs) (filter some xs)) ≤ sum_by (λ (x : X). k) (x ∷ xs)
+    by true left = omega (arith, left, sum_by-cons (λ (x : X). k) x (filter some xs), sum_by-cons (λ (x : X). k) x xs)
+    by false left = omega (arith, left, sum_by-cons (λ (x : X). k) x xs)
+
+atoms_named : (c : Parent) (atoms : List Atom) → sum_by (packages_weight Named c) atoms ≤ sum_by (packages_weight Every c) atoms
+atoms_named c [] = omega arith
+atoms_named c (a ∷ atoms) =
+    omega (arith, some_of_all (1 + length a.items) (is_pkg_of a.category a.name) c.among, atoms_named c atoms, sum_by-cons (packages_weight Named c) a atoms, sum_by-cons (packages_weight Every c) a atoms)
+
+pub class_named : (c : Parent) (ts : Deps) → class_weight Named c ts ≤ class_weight Every c ts
+class_named c ts = omega (arith, atoms_named c (wanted_atoms ts))
+
 -- the same for each
 all_same : (k : ℕ) (xs : List Pkg) → sum_by (λ (p : Pkg). k) xs ≡ k * length xs
 all_same k [] = sym (mul-zero k)
@@ -59,3 +76,6 @@ named_times k w pkgs category name c n places is named at told =
     let many : length places ≡ length (filter (is_pkg_of c n) pkgs) = sym (length-map places (slice_get pkgs)) ∙ (ap (λ os. length os) at ∙ length-map (filter (is_pkg_of c n) pkgs) Some) in
     let same : filter (is_pkg_of c n) pkgs ≡ filter (is_pkg_of category name) pkgs = ap (λ x. filter (is_pkg_of x n) pkgs) is ∙ ap (λ x. filter (is_pkg_of category x) pkgs) named in
     told ∙ ap capped (ap (λ m. k * m) (many ∙ ap (λ xs. length xs) same) ∙ sym (all_same k (filter (is_pkg_of category name) pkgs)))
+
+pub every_times : (k w : ℕ) (pkgs : List Pkg) → w ≡ capped (k * length pkgs) → w ≡ capped (sum_by (λ (p : Pkg). k) pkgs)
+every_times k w pkgs told = told ∙ ap capped (sym (all_same k pkgs))

@@ -16,13 +16,12 @@ use Rattle.gv_entry.specs.Weight.{candidates}
 use Rattle.gv_logic.specs.declared.gates.Op.TheVariants.{Or}
 use Rattle.gv_logic.specs.Circuits.{Draft}
 use Rattle.gv_lower.specs.Around.{parent_of, wanted_plan}
-use Rattle.gv_lower.specs.Asks.{ask_of, ask_plan, asks_of, asks_plan}
+use Rattle.gv_lower.specs.Asks.{FlagAsks, ask_of, ask_plan, asks_of, asks_plan}
 use Rattle.gv_lower.specs.AtomGates.{atom_plan, first_named, items_plan}
 use Rattle.gv_lower.specs.Drawn.{Drew}
 use Rattle.gv_lower.specs.Groups.{all_of}
 use Rattle.gv_lower.specs.Plans.{built_on, gate_over, given}
 use Rattle.gv_lower.specs.TreeGates.{Base}
-use Rattle.gv_lower.specs.declared.asks.FlagAsks.{FlagAsks}
 use Rattle.gv_visible.specs.VisiblePkgs.{shows}
 use Rattle.gv_visible.specs.Candidates.{Candidates, level_of, pkgs_of, profile_of}
 

@@ -6,9 +6,8 @@ use Rattle.gv_facts.specs.declared.profile.Profile.{Profile}
 use Rattle.gv_facts.specs.States.{state}
 use Rattle.gv_logic.specs.declared.gates.Op.TheVariants.{Or}
 use Rattle.gv_atom.specs.declared.atom.Atom.{Atom}
-use Rattle.gv_lower.specs.Asks.{asks_plan}
+use Rattle.gv_lower.specs.Asks.{FlagAsks, asks_plan}
 use Rattle.gv_lower.specs.Plans.{Plan, built_on, gate_over}
-use Rattle.gv_lower.specs.declared.asks.FlagAsks.{FlagAsks}
 use Rattle.gv_visible.specs.VisiblePkgs.{shows}
 use Rattle.gv_entry.specs.Allowed.{Parent}
 use Rattle.gv_visible.specs.Candidates.{Candidates, level_of, pkgs_of, profile_of}

@@ -9,14 +9,15 @@ use Rattle.gv_facts.specs.declared.pkg.Pkg.{Pkg}
 use Rattle.gv_entry.specs.Allowed.{Parent}
 use Rattle.gv_entry.specs.Weight.{atom_weight}
 use Rattle.gv_lower.specs.declared.weigh.Counted.{Counted}
-use Rattle.gv_lower.specs.declared.weigh.Counted.TheVariants.{Named, Shown}
+use Rattle.gv_lower.specs.declared.weigh.Counted.TheVariants.{Every, Named, Shown}
 
 -- a number past the last of 64 bits is told as that one
 abbrev pub capped : ℕ → ℕ
 capped n = min n (2 ^ 64 - 1)
 
--- one and the atom's items, for each package of its name, or for each that it matches and that is visible
+-- one and the atom's items, for each package, or for each of its name, or for each that it matches and that is visible
 abbrev pub packages_weight : Counted → Parent → Atom → ℕ
+packages_weight Every c atom = sum_by (λ (p : Pkg). 1 + length atom.items) c.among
 packages_weight Named c atom = sum_by (λ (p : Pkg). 1 + length atom.items) (filter (is_pkg_of atom.category atom.name) c.among)
 packages_weight Shown c atom = atom_weight c atom
 

@@ -8,7 +8,7 @@ ghost use Rattle.gv_lower.specs.Drawn.{Drew, DrewEach};
 ghost use Rattle.gv_lower.specs.ParentFlags.{base_at};
 
 use crate::chains::Chains;
-use crate::groups::{gate_over, pair};
+use crate::groups::gate_over;
 use crate::parent::ParentFlags;
 use crate::sketch::Sketch;
 use gv_atom::{Ask, UseItem};
@@ -17,17 +17,26 @@ use gv_facts::{FlagState, Level, Pkg, Profile};
 use gv_logic::{Lit, Lits, Op};
 use gv_usestate::state;
 use std::alloc::Global;
+use std::marker::Model;
 
 // What is asked of a flag.
 #[derive(Drop)]
-pub(crate) struct FlagAsks {
-    pub(crate) flag: Text,
+pub(crate) struct FlagAsks<'a> {
+    flag: &'a Text,
     // Where one of these is true it has to be on.
-    pub(crate) on: Lits,
+    on: Lits,
     // Where one of these is true it has to be off.
-    pub(crate) off: Lits,
+    off: Lits,
     // None of these may be true where there is no such flag.
-    pub(crate) missing: Lits,
+    missing: Lits,
+}
+
+impl<'a> Model for FlagAsks<'a> {
+    ghost use Rattle.gv_lower.specs.Asks.{FlagAsks};
+
+    ghost Value = { FlagAsks };
+
+    ghost view = { λ a. record { flag = a.flag.now; on = a.on; off = a.off; missing = a.missing } };
 }
 
 // Which of the three lists.
@@ -39,11 +48,11 @@ enum Side {
 }
 
 // One for each flag, by the first item that names it.
-pub(crate) fn asks_of(
+pub(crate) fn asks_of<'a>(
     alloc: Global,
-    items: &[UseItem],
+    items: &'a [UseItem],
     parent: &ParentFlags<'_>,
-) -> Result<Vec<FlagAsks>, NoMemory>
+) -> Result<Vec<FlagAsks<'a>>, NoMemory>
     ensures { IfOk result (λ asks. asks.items ≡ asks_of (base_at parent.now) items.now) }
 {
     let chains = Chains::of(alloc, items)?;
@@ -61,7 +70,7 @@ pub(crate) fn asks_of(
 // Whether the flags of the package may be set so that all have what is asked.
 pub(crate) fn draw_asks(
     sketch: &mut Sketch,
-    asks: &[FlagAsks],
+    asks: &[FlagAsks<'_>],
     pkg: &Pkg,
     profile: &Profile,
     level: Level,
@@ -69,7 +78,7 @@ pub(crate) fn draw_asks(
     ensures { IfOk result (λ lit. Drew (asks_plan (state pkg.now profile.now level) asks.now) sketch.old sketch.new lit) }
 {
     let lits = draw_each_ask(sketch, asks, pkg, profile, level)?;
-    gate_over(sketch, Op::And, lits)
+    gate_over(sketch, Op::And, lits.items())
 }
 
 fn add_on(lits: &mut Lits, item: &UseItem, parent: &ParentFlags<'_>) -> Result<(), NoMemory>
@@ -145,20 +154,19 @@ fn side_of(
 }
 
 // What the items ask of this flag, which the first of them names.
-fn ask_at(
+fn ask_at<'a>(
     alloc: Global,
     chains: &Chains<'_>,
     first: usize,
-    flag: &Text,
+    flag: &'a Text,
     parent: &ParentFlags<'_>,
-) -> Result<FlagAsks, NoMemory>
+) -> Result<FlagAsks<'a>, NoMemory>
     requires { HasFlag chains.now first flag.now }
     ensures { IfOk result (λ asks. asks ≡ ask_from flag.now (asked_by (base_at parent.now) (naming flag.now (drop first chains.now)))) }
 {
     let on = side_of(alloc, Side::On, chains, first, flag, parent)?;
     let off = side_of(alloc, Side::Off, chains, first, flag, parent)?;
     let missing = side_of(alloc, Side::Missing, chains, first, flag, parent)?;
-    let flag = flag.copy(alloc)?;
     Ok(FlagAsks {
         flag,
         on,
@@ -167,46 +175,36 @@ fn ask_at(
     })
 }
 
-fn none_of(sketch: &mut Sketch, lits: &Lits) -> Result<Lit, NoMemory>
+fn none_of(sketch: &mut Sketch, lits: &[Lit]) -> Result<Lit, NoMemory>
     ensures { IfOk result (λ lit. Drew (none_of lits.now) sketch.old sketch.new lit) }
 {
-    let lits = lits.copy(sketch.alloc)?;
     let some = sketch.add(Op::Or, lits)?;
     Ok(some.opposite())
 }
 
-fn not_both_of(sketch: &mut Sketch, on: Lits, off: Lits) -> Result<Lit, NoMemory>
-    ensures { IfOk result (λ lit. Drew (not_both on off) sketch.old sketch.new lit) }
+fn not_both(sketch: &mut Sketch, on: &[Lit], off: &[Lit]) -> Result<Lit, NoMemory>
+    ensures { IfOk result (λ lit. Drew (not_both on.now off.now) sketch.old sketch.new lit) }
 {
     let some_on = sketch.add(Op::Or, on)?;
     let some_off = sketch.add(Op::Or, off)?;
-    let lits = pair(sketch.alloc, some_on.opposite(), some_off.opposite())?;
-    sketch.add(Op::Or, lits)
-}
-
-fn not_both(sketch: &mut Sketch, on: &Lits, off: &Lits) -> Result<Lit, NoMemory>
-    ensures { IfOk result (λ lit. Drew (not_both on.now off.now) sketch.old sketch.new lit) }
-{
-    let on = on.copy(sketch.alloc)?;
-    let off = off.copy(sketch.alloc)?;
-    not_both_of(sketch, on, off)
+    sketch.add(Op::Or, &[some_on.opposite(), some_off.opposite()])
 }
 
 // Whether a flag of this state may be set so that it has what is asked.
-fn draw_ask(sketch: &mut Sketch, ask: &FlagAsks, state: FlagState) -> Result<Lit, NoMemory>
+fn draw_ask(sketch: &mut Sketch, ask: &FlagAsks<'_>, state: FlagState) -> Result<Lit, NoMemory>
     ensures { IfOk result (λ lit. Drew (flag_plan state (asked_in ask.now)) sketch.old sketch.new lit) }
 {
     match state {
-        FlagState::Free => not_both(sketch, &ask.on, &ask.off),
-        FlagState::On => none_of(sketch, &ask.off),
-        FlagState::Off => none_of(sketch, &ask.on),
-        FlagState::Absent => none_of(sketch, &ask.missing),
+        FlagState::Free => not_both(sketch, ask.on.items(), ask.off.items()),
+        FlagState::On => none_of(sketch, ask.off.items()),
+        FlagState::Off => none_of(sketch, ask.on.items()),
+        FlagState::Absent => none_of(sketch, ask.missing.items()),
     }
 }
 
 fn draw_each_ask(
     sketch: &mut Sketch,
-    asks: &[FlagAsks],
+    asks: &[FlagAsks<'_>],
     pkg: &Pkg,
     profile: &Profile,
     level: Level,
@@ -215,7 +213,7 @@ fn draw_each_ask(
 {
     let mut lits = Lits::new(sketch.alloc);
     for ask in asks {
-        let lit = draw_ask(sketch, ask, state(pkg, profile, level, &ask.flag))?;
+        let lit = draw_ask(sketch, ask, state(pkg, profile, level, ask.flag))?;
         lits.add(lit)?;
     }
     Ok(lits)

@@ -46,7 +46,7 @@ pub(crate) fn draw_atom<F: Fn(&Pkg) -> bool>(
 // For the package at this place, where it is visible and the atom matches it.
 fn draw_shown<F: Fn(&Pkg) -> bool>(
     sketch: &mut Sketch,
-    asks: &[FlagAsks],
+    asks: &[FlagAsks<'_>],
     atom: &Atom,
     place: u32,
     candidates: &Candidates<'_, F>,
@@ -70,7 +70,7 @@ fn draw_shown<F: Fn(&Pkg) -> bool>(
 // For each visible package that the atom matches. Those of its name are looked up once.
 fn draw_packages<F: Fn(&Pkg) -> bool>(
     sketch: &mut Sketch,
-    asks: &[FlagAsks],
+    asks: &[FlagAsks<'_>],
     atom: &Atom,
     candidates: &Candidates<'_, F>,
 ) -> Result<Lits, NoMemory>
@@ -86,7 +86,7 @@ fn draw_packages<F: Fn(&Pkg) -> bool>(
 
 fn draw_wanted<F: Fn(&Pkg) -> bool>(
     sketch: &mut Sketch,
-    asks: &[FlagAsks],
+    asks: &[FlagAsks<'_>],
     atom: &Atom,
     candidates: &Candidates<'_, F>,
 ) -> Result<Lit, NoMemory>
@@ -94,5 +94,5 @@ fn draw_wanted<F: Fn(&Pkg) -> bool>(
     ensures { IfOk result (λ lit. Drew (wanted_plan candidates.now atom.now asks.now) sketch.old sketch.new lit) }
 {
     let lits = draw_packages(sketch, asks, atom, candidates)?;
-    gate_over(sketch, Op::Or, lits)
+    gate_over(sketch, Op::Or, lits.items())
 }

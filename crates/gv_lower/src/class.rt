@@ -121,5 +121,5 @@ fn draw_all<F: Fn(&Pkg) -> bool>(
     ensures { IfOk result (λ lit. Drew (built_on all_of (dep_plans (deps items.now) (atom_plan (parent_of candidates.now parent.now.pkg.now) (base_at parent.now)) (base_at parent.now) empty false)) sketch.old sketch.new lit) }
 {
     let lits = draw_each(sketch, items, parent, candidates, empty, false)?;
-    gate_over(sketch, Op::And, lits)
+    gate_over(sketch, Op::And, lits.items())
 }

@@ -95,9 +95,10 @@ fn add_own(
     requires { AreKnown states.now pkg.now flags.now }
     ensures { OnOk result (key.new.items ≡ key.old.items ++ own_keys (state pkg.now states.now level) flags.now) }
 {
+    key.reserve(flags.len())?;
     for known in flags {
         let state = states.state_as(known.kind, pkg, level, known.flag);
-        key.push(own_key(state))?;
+        key.push_reserved(own_key(state));
     }
     Ok(())
 }
@@ -113,9 +114,10 @@ fn add_states(
     requires { AreKnown states.now pkg.now flags.now }
     ensures { OnOk result (key.new.items ≡ key.old.items ++ other_keys (state pkg.now states.now level) flags.now) }
 {
+    key.reserve(flags.len())?;
     for known in flags {
         let state = states.state_as(known.kind, pkg, level, known.flag);
-        key.push(other_key(state))?;
+        key.push_reserved(other_key(state));
     }
     Ok(())
 }

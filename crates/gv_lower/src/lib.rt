@@ -8,7 +8,7 @@
 //! - `flags`, `weigh`: a query's flags and its weight.
 //! - `required`, `class`, `atoms`, `asks`: expressions, atoms and USE items, drawn as gates. `parent` has the literals of the
 //!   parent's flags, `chains` the items of an atom by their flags, `groups` what a group makes of its members.
-//! - `sketch`, `finish`: gates in the making, and made.
+//! - `sketch`: gates in the making.
 //! - `mentions`, `known`, `sites`: what the queries of a package ask about, and what is known of it in each profile, found once
 //!   for the package.
 //! - `keys`: from these, what tells whether two contexts of a package have one and the same query, without its gates.
@@ -25,7 +25,6 @@ mod atoms;
 mod caller;
 mod chains;
 mod class;
-mod finish;
 mod flags;
 mod groups;
 #[cfg(test)]

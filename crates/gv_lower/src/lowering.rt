@@ -12,11 +12,10 @@ ghost use Rattle.gv_lower.specs.QueryGates.{allowed_gates, failing_gates, failin
 ghost use Rattle.gv_visible.specs.StoredTest.{AnswersVisible};
 ghost use Rattle.gv_visible.specs.Candidates.{level_of, profile_of, test_of};
 
-use crate::finish::{begin, finish};
 use crate::flags::{class_flags, required_flags};
-use crate::groups::pair;
 use crate::parent::{Inputs, ParentFlags};
 use crate::query::{LowerFault, Query, inputs_of};
+use crate::sketch::Sketch;
 use crate::weigh::{light_class, light_required};
 use crate::{class, required};
 use gv_base::NoMemory;
@@ -88,7 +87,7 @@ fn draw_allowed(
     ensures { IfOk result (λ gates. gates ≡ allowed_gates (alone pkg.now profile.now level) required.now inputs.now) }
 {
     let count = inputs.count();
-    let mut sketch = begin(alloc, count)?;
+    let mut sketch = Sketch::begin(alloc, count)?;
     let parent = ParentFlags {
         pkg,
         profile,
@@ -98,7 +97,7 @@ fn draw_allowed(
         off: Lit(2 * (count + 1)),
     };
     let root = required::draw_all(&mut sketch, required, &parent, empty_holds(pkg.eapi))?;
-    finish(&sketch, root)
+    Ok(sketch.finish(root))
 }
 
 // The gates, and the literals of the class's top items.
@@ -116,7 +115,7 @@ fn draw_failing<F: Fn(&Pkg) -> bool>(
     ensures items { IfOk result (λ r. r.1 ≡ failing_items (parent_of candidates.now pkg.now) required.now class.now inputs.now) }
 {
     let count = inputs.count();
-    let mut sketch = begin(alloc, count)?;
+    let mut sketch = Sketch::begin(alloc, count)?;
     let parent = ParentFlags {
         pkg,
         profile: candidates.profile(),
@@ -128,11 +127,9 @@ fn draw_failing<F: Fn(&Pkg) -> bool>(
     let empty = empty_holds(pkg.eapi);
     let allowed = required::draw_all(&mut sketch, required, &parent, empty)?;
     let items = class::draw_each(&mut sketch, class, &parent, candidates, empty, false)?;
-    let holds = sketch.add(Op::And, items.copy(alloc)?)?;
-    let fails = pair(alloc, allowed, holds.opposite())?;
-    let root = sketch.add(Op::And, fails)?;
-    let gates = finish(&sketch, root)?;
-    Ok((gates, items))
+    let holds = sketch.add(Op::And, items.items())?;
+    let root = sketch.add(Op::And, &[allowed, holds.opposite()])?;
+    Ok((sketch.finish(root), items))
 }
 
 fn allowed_query(

@@ -1,7 +1,7 @@
 //! The weight of a query: its tokens, and for each visible package that an atom matches one and the atom's items.
 //!
-//! O(its trees) steps, down at most 64 groups, and a look-up for each atom. Only where the packages of the atoms' names
-//! are too many are they looked at, each by a look-up and a call of the test.
+//! O(its trees) steps, down at most 64 groups. Only where all packages for each atom were too many is each atom looked up, and
+//! only where those of the atoms' names are too many are these looked at, each by a look-up and a call of the test.
 ghost use Rattle.std.specs.Prelude.{◌≡◌, ℕ, ◌+◌, ◌*◌, [], ◌∷◌, length, filter, sum_by, IfOk};
 ghost use Rattle.gv_expr.specs.Dep as dep;
 ghost use Rattle.gv_expr.specs.Dep.{deps};
@@ -33,6 +33,8 @@ const MOST_WEIGHT: u64 = 2_000_000;
 // Which packages of an atom are counted.
 #[derive(Clone, Copy)]
 enum Counted {
+    // all packages
+    Every,
     // those of its name
     Named,
     // those that it matches and that are visible
@@ -46,8 +48,8 @@ pub(crate) fn light_required(required: &UseExpr) -> Result<(), LowerFault>
     light(required_tokens(required))
 }
 
-// Whether the query of a class is. All packages of a name are counted first, and those that are shown only where these are
-// too many.
+// Whether the query of a class is. All packages are counted for each atom first, without a look-up; those of its name where
+// these are too many, and only then those that are shown.
 pub(crate) fn light_class<F: Fn(&Pkg) -> bool>(
     required: &UseExpr,
     class: &DepExpr,
@@ -58,14 +60,28 @@ pub(crate) fn light_class<F: Fn(&Pkg) -> bool>(
     ensures { LightWeight (weight (parent_of candidates.now pkg.now) required.now class.now) result }
 {
     let tokens = required_tokens(required);
-    let named = class_weight(Counted::Named, class, pkg, candidates)?;
-    match light(plus(tokens, named)) {
-        Ok(()) => Ok(()),
-        Err(_) => {
-            let shown = class_weight(Counted::Shown, class, pkg, candidates)?;
-            light(plus(tokens, shown))
-        }
+    if let Ok(()) = light_counted(Counted::Every, tokens, class, pkg, candidates) {
+        return Ok(());
     }
+    if let Ok(()) = light_counted(Counted::Named, tokens, class, pkg, candidates) {
+        return Ok(());
+    }
+    light_counted(Counted::Shown, tokens, class, pkg, candidates)
+}
+
+// Whether so many tokens and what is counted of a class are light enough.
+fn light_counted<F: Fn(&Pkg) -> bool>(
+    counted: Counted,
+    tokens: u64,
+    class: &DepExpr,
+    pkg: &Pkg,
+    candidates: &Candidates<'_, F>,
+) -> Result<(), LowerFault>
+    requires { AnswersVisible (F.pre (test_of candidates.now)) (F.post (test_of candidates.now)) (profile_of candidates.now) (level_of candidates.now) }
+    ensures { (all : ℕ) → tokens ≡ capped all → LightWeight (all + class_weight counted (parent_of candidates.now pkg.now) (deps class.now)) result }
+{
+    let weight = class_weight(counted, class, pkg, candidates)?;
+    light(plus(tokens, weight))
 }
 
 // A sum that ends at the last number.
@@ -111,6 +127,15 @@ fn count(items: &[UseItem]) -> u64
     ensures { result ≡ capped (length items.now) }
 {
     items.len() as u64
+}
+
+// One and the atom's items, for each package.
+fn every_weight<F: Fn(&Pkg) -> bool>(atom: &Atom, candidates: &Candidates<'_, F>) -> u64
+    ensures { result ≡ capped (sum_by (λ (p : Pkg). 1 + length atom.now.items) (pkgs_of candidates.now)) }
+{
+    let each = plus(1, count(atom.items.items()));
+    let pkgs = candidates.pkgs().items();
+    times(each, pkgs.len() as u64)
 }
 
 // One and the atom's items, for each package of its name. No package is looked at.
@@ -160,6 +185,7 @@ fn packages_weight<F: Fn(&Pkg) -> bool>(
     ensures { IfOk result (λ weight. weight ≡ capped (packages_weight counted (parent_of candidates.now pkg.now) atom.now)) }
 {
     match counted {
+        Counted::Every => Ok(every_weight(atom, candidates)),
         Counted::Named => Ok(named_weight(atom, candidates)),
         Counted::Shown => shown_weight(atom, candidates),
     }

@@ -1,7 +1,11 @@
-use Rattle.std.proofs.Common.{◌≡◌, ◌++◌, drop}
+use Rattle.std.proofs.Common.{◌≡◌, ◌+◌, ◌≤◌, ◌++◌, drop, length}
+use Rattle.std.specs.Vec.{vec_capacity, vec_len}
 use Rattle.gv_facts.specs.States.{state}
 use Rattle.gv_lower.specs.KeysAround.{other_keys}
 use Rattle.gv_lower.proofs.keys.add_states.Given as goal
 
 abbrev pub invariant-loop-known : goal.invariant-loop-known
-invariant-loop-known l = l.key.items ++ other_keys (state l.pkg l.states l.level) (drop l.known-index l.flags) ≡ l.initial.key.items ++ other_keys (state l.pkg l.states l.level) l.flags
+invariant-loop-known l = record {
+  added : l.key.items ++ other_keys (state l.pkg l.states l.level) (drop l.known-index l.flags) ≡ l.initial.key.items ++ other_keys (state l.pkg l.states l.level) l.flags;
+  room : vec_len l.key + length (drop l.known-index l.flags) ≤ vec_capacity l.key;
+}
