@@ -18,6 +18,10 @@ use Rattle.gv_cert.specs.declared.claim.Claim.TheVariants.{Refuted, Found}
 use Rattle.gv_entry.specs.Allowed.{Parent}
 use Rattle.gv_expr.specs.Dep.{Dep}
 use Rattle.gv_expr.specs.Required.{Req}
+use Rattle.gv_base.specs.FileMap.{FileMap}
+use Rattle.gv_load.specs.Loading.{LoadCause}
+use Rattle.gv_load.specs.declared.faults.LoadFault.{LoadFault}
+use Rattle.gv_load.specs.declared.faults.LoadFault.TheVariants as loads
 use Rattle.gv_load.specs.declared.loading.Repo.{Repo}
 use Rattle.gv_logic.specs.Bytes.{circuit_bytes}
 use Rattle.gv_logic.specs.Circuits.{Circuit, IsCircuit}
@@ -33,13 +37,37 @@ use Rattle.gv_report.specs.Selecting.{selected}
 use Rattle.gv_checks.specs.Answered.{IsJudged}
 use Rattle.gv_checks.specs.Asked.{asked_gates, found_bits, least_asked}
 use Rattle.gv_checks.specs.Certs.{Cert, HasBacked, IsCert, cert_record, has_gates, new_count, with_use}
+use Rattle.gv_checks.specs.Limits.{Refuses}
+use Rattle.gv_checks.specs.declared.fault.JudgeFault.{JudgeFault}
+use Rattle.gv_checks.specs.declared.fault.JudgeFault.TheVariants as judges
+use Rattle.gv_checks.specs.declared.names.QueryName.{QueryName}
 use Rattle.gv_checks.specs.Queries.{Query, class_of, gates_bytes, gates_of, least_of, queries, required_of}
 use Rattle.gv_checks.specs.RepoReports.{report_found, reports, scan_reports, scan_text}
 use Rattle.gv_checks.specs.declared.whole.Judged.{Judged}
 use Rattle.gvis.specs.declared.answering.Answers.{Answers}
 use Rattle.gvis.specs.Run.{AreUnbacked}
-use Rattle.gvis.specs.ScanSteps.{AreAnswersOf}
+use Rattle.gvis.specs.Refusing.{HandsJudge, HandsLoad}
+use Rattle.gvis.specs.ScanSteps.{AreAnswersOf, JudgeCause, ReadCause}
+use Rattle.gvis.specs.declared.refusal.Refusal.{Refusal}
 use Rattle.gvis.specs.Silences.{IsRefutedIfSilent, IsSilent}
+
+-- a fault of loading or of judging, handed on, is a cause
+pub unread : (told : Option FileMap) (before now : ℕ) (fault : LoadFault) (refusal : Refusal) → LoadCause told before now fault → HandsLoad fault refusal → ReadCause told before now refusal
+unread told before now (loads.Tree path) refusal cause is = subst (ReadCause told before now) (sym is) cause
+unread told before now (loads.NotARepository path) refusal cause is = subst (ReadCause told before now) (sym is) cause
+unread told before now (loads.Limit place number) refusal cause is = subst (ReadCause told before now) (sym is) cause
+unread told before now loads.NoMemory refusal cause is = subst (ReadCause told before now) (sym is) tt
+
+module _ (options : Options) (given : List KnownRecord) (repo : Repo) where
+  spent_or_none : (name : QueryName) (sets : List (List ℕ)) (refusal : Refusal) → Refuses options.budget given (queries options repo) (judges.Spent name sets)
+      → HandsJudge repo (judges.Spent name sets) refusal → JudgeCause options given repo refusal
+  spent_or_none name sets refusal cause (inl is) = subst (JudgeCause options given repo) (sym is) (name, sets, refl, cause)
+  spent_or_none name sets refusal cause (inr is) = subst (JudgeCause options given repo) (sym is) tt
+
+  pub unjudged : (fault : JudgeFault) (refusal : Refusal) → Refuses options.budget given (queries options repo) fault → HandsJudge repo fault refusal → JudgeCause options given repo refusal
+  unjudged (judges.Spent name sets) refusal cause is = spent_or_none name sets refusal cause is
+  unjudged (judges.Limit place number) refusal cause is = subst (JudgeCause options given repo) (sym is) cause
+  unjudged judges.NoMemory refusal cause is = subst (JudgeCause options given repo) (sym is) tt
 
 abbrev pub PickedLaw : Type 0
 PickedLaw = (p : Report → Bool) (rs : List Report) → filter p (ordered rs) ≡ ordered (filter p rs)

@@ -18,7 +18,8 @@ use Rattle.gvis.specs.declared.refusal.Refusal.TheVariants.{BadWords, TreeFailed
 use Rattle.gvis.specs.Endings.{GainsFront}
 use Rattle.gvis.specs.ScanSteps.{WriteCause}
 use Rattle.gvis.specs.Session.{IsReport, report_text}
-use Rattle.gvis.specs.SessionSteps.{AnswerCause, HandsJudge, HandsLoad, IsAnswered, IsCut, MakeCause, writing}
+use Rattle.gvis.specs.Refusing.{HandsJudge, HandsLoad}
+use Rattle.gvis.specs.SessionSteps.{AnswerCause, IsAnswered, IsCut, MakeCause, writing}
 
 -- ---- the report
 

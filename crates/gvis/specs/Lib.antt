@@ -3,6 +3,7 @@ pub mod Fetching
 pub mod Naming
 pub mod Silences
 pub mod Endings
+pub mod Refusing
 pub mod Scan
 pub mod Run
 pub mod Verify

@@ -60,18 +60,6 @@ MakeCause s told before now OutputFailed = ⊥
 MakeCause s told before now InputFailed = ⊥
 MakeCause s told before now (BadCommand number) = ⊥
 
--- a fault of loading, or of judging a repository, as a refusal
-abbrev pub HandsLoad : LoadFault → Refusal → Type 0
-HandsLoad (loads.Tree path) refusal = refusal ≡ TreeFailed path
-HandsLoad (loads.NotARepository path) refusal = refusal ≡ NotARepository path
-HandsLoad (loads.Limit place number) refusal = refusal ≡ Limit place number
-HandsLoad loads.NoMemory refusal = refusal ≡ NoMemory
-
-abbrev pub HandsJudge : Repo → JudgeFault → Refusal → Type 0
-HandsJudge repo (judges.Spent name sets) refusal = (refusal ≡ Spent (name_text repo name)) ⊎ (refusal ≡ NoMemory)
-HandsJudge repo (judges.Limit place number) refusal = refusal ≡ Limit place number
-HandsJudge repo judges.NoMemory refusal = refusal ≡ NoMemory
-
 -- how tree and output are left
 pub record Written : Type 0 where
   pub tree_before : ℕ

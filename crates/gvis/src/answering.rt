@@ -9,11 +9,11 @@ ghost use Rattle.gvis.specs.ScanSteps.{AnswerCause, AreAnswersOf, HasAnswers, Ju
 
 use crate::Refusal;
 use crate::asking::Asked;
-use crate::naming::name_text;
+use crate::refusing::{judge_refusal, load_refusal};
 use gv_base::{Ledger, NoMemory, Steps, Text, Tree};
 use gv_cert::{Known, write_known};
-use gv_checks::{JudgeFault, Judged, QueryName, gates_law, judge};
-use gv_load::{LoadFault, Repo, load};
+use gv_checks::{Judged, gates_law, judge};
+use gv_load::{Repo, load};
 use gv_logic::circuit_law;
 use gv_report::{Emitter, Options, Report, Reports, selected, selected_law};
 use std::alloc::Global;
@@ -28,6 +28,7 @@ pub struct Answers {
 }
 
 /// The repository that stands in the tree.
+#[tactic(auto, using(crate::proofs::AnswerLemmas::unread))]
 pub(crate) fn read<T: Tree>(alloc: Global, tree: &mut T) -> Result<Repo, Refusal>
     ensures repo { IfOk result (IsLoaded (T.files tree.old)) }
     ensures cause { IfErr result (ReadCause (T.files tree.old) (T.faults tree.old) (T.faults tree.new)) }
@@ -38,10 +39,7 @@ pub(crate) fn read<T: Tree>(alloc: Global, tree: &mut T) -> Result<Repo, Refusal
 {
     match load(alloc, tree) {
         Ok(repo) => Ok(repo),
-        Err(LoadFault::Tree { path }) => Err(Refusal::TreeFailed { path }),
-        Err(LoadFault::NotARepository { path }) => Err(Refusal::NotARepository { path }),
-        Err(LoadFault::Limit { place, number }) => Err(Refusal::Limit { place, number }),
-        Err(LoadFault::NoMemory) => Err(Refusal::NoMemory),
+        Err(fault) => Err(load_refusal(fault)),
     }
 }
 
@@ -75,6 +73,7 @@ pub(crate) fn answer_root<T: Tree, L: Ledger>(
     answers_of(alloc, &repo, &asked.options, given, steps)
 }
 
+#[tactic(auto, using(crate::proofs::AnswerLemmas::unjudged))]
 fn judged<L: Ledger>(
     alloc: Global,
     repo: &Repo,
@@ -87,12 +86,7 @@ fn judged<L: Ledger>(
 {
     match judge(alloc, repo, options, given, steps) {
         Ok(judged) => Ok(judged),
-        Err(JudgeFault::Spent { name, sets: _ }) => match name_text(alloc, repo, &name) {
-            Ok(name) => Err(Refusal::Spent { name }),
-            Err(_) => Err(Refusal::NoMemory),
-        },
-        Err(JudgeFault::Limit { place, number }) => Err(Refusal::Limit { place, number }),
-        Err(JudgeFault::NoMemory) => Err(Refusal::NoMemory),
+        Err(fault) => Err(judge_refusal(alloc, fault, repo)),
     }
 }
 

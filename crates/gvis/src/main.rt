@@ -14,6 +14,7 @@ mod real;
 mod refusal;
 #[cfg(test)]
 mod refusal_tests;
+mod refusing;
 mod replacing;
 mod replying;
 #[cfg(test)]

@@ -15,6 +15,9 @@ use std::io::{ErrorKind, Read, Write};
 use std::rt::Files;
 use std::{fs, io};
 
+/// The system is asked for so many bytes at a time.
+const PART: usize = 4096;
+
 /// A folder of the system.
 #[derive(Drop)]
 pub struct FsTree<R: Files + AllocGlobal + Clone + Drop> {
@@ -123,16 +126,26 @@ fn read_file<R: Files>(rt: &R, alloc: Global, path: &str, limit: u64) -> Result<
     requires { limit < 2 ^ 63 }
     ensures { IfOk result (λ text. length text ≤ limit) }
 {
-    let file = fs::open(rt, path).map_err(|e| trouble_of(&e))?;
-    let mut bytes = Vec::new(alloc);
-    let mut part = file.take(limit + 1);
-    if let Err(e) = part.read_to_end(&mut bytes) {
-        return Err(trouble_of(&e));
+    let mut file = fs::open(rt, path).map_err(|e| trouble_of(&e))?;
+    let Ok(mut text) = Text::of(alloc, &[]) else {
+        return Err(Trouble::NoMemory);
+    };
+    let mut part = [0; PART];
+    for _ in 0..u64::MAX {
+        let count = match file.read(&mut part) {
+            Ok(0) => return Ok(text),
+            Ok(count) => count,
+            Err(e) if e.kind() == ErrorKind::Interrupted => continue,
+            Err(e) => return Err(trouble_of(&e)),
+        };
+        if (count as u64) > limit - text.bytes().len() as u64 {
+            return Err(Trouble::TooLarge);
+        }
+        if text.append(&part[..count]).is_err() {
+            return Err(Trouble::NoMemory);
+        }
     }
-    if bytes.len() as u64 > limit {
-        return Err(Trouble::TooLarge);
-    }
-    Text::of(alloc, &bytes).map_err(|_| Trouble::NoMemory)
+    Err(Trouble::Other)
 }
 
 fn look<R: Files>(rt: &R, alloc: Global, path: &str) -> Result<Found, Trouble>

@@ -4,14 +4,12 @@
 ghost use Rattle.std.specs.Prelude.{◌≡◌, ◌≤◌, ◌++◌, IfOk, IfErr, OnOk};
 ghost use Rattle.gv_edits.specs.Edits.{edited_told};
 ghost use Rattle.gvis.specs.Session.{IsReport, report_text};
-ghost use Rattle.gvis.specs.SessionSteps.{AnswerCause, HandsJudge, HandsLoad, IsAnswered, MakeCause, writing};
+ghost use Rattle.gvis.specs.SessionSteps.{AnswerCause, IsAnswered, MakeCause, writing};
 
 use crate::Refusal;
-use crate::naming::name_text;
+use crate::refusing::{judge_refusal, load_refusal};
 use crate::scanning::write;
 use gv_base::{Ledger, NoMemory, Sink, Steps, Text, Tree};
-use gv_checks::JudgeFault;
-use gv_load::{LoadFault, Repo};
 use gv_session::{Session, SessionFault};
 use std::alloc::Global;
 
@@ -58,30 +56,6 @@ fn make_report<T: Tree, L: Ledger>(
         Err(SessionFault::Load { fault }) => Err(load_refusal(fault)),
         Err(SessionFault::Judge { fault, repo }) => Err(judge_refusal(alloc, fault, &repo)),
         Err(SessionFault::NoMemory) => Err(Refusal::NoMemory),
-    }
-}
-
-fn load_refusal(fault: LoadFault) -> Refusal
-    ensures { HandsLoad fault result }
-{
-    match fault {
-        LoadFault::Tree { path } => Refusal::TreeFailed { path },
-        LoadFault::NotARepository { path } => Refusal::NotARepository { path },
-        LoadFault::Limit { place, number } => Refusal::Limit { place, number },
-        LoadFault::NoMemory => Refusal::NoMemory,
-    }
-}
-
-fn judge_refusal(alloc: Global, fault: JudgeFault, repo: &Repo) -> Refusal
-    ensures { HandsJudge repo.now fault result }
-{
-    match fault {
-        JudgeFault::Spent { name, sets: _ } => match name_text(alloc, repo, &name) {
-            Ok(name) => Refusal::Spent { name },
-            Err(_) => Refusal::NoMemory,
-        },
-        JudgeFault::Limit { place, number } => Refusal::Limit { place, number },
-        JudgeFault::NoMemory => Refusal::NoMemory,
     }
 }
 
