@@ -11,7 +11,7 @@
 //!   packages.
 //! - `ruled`: what is known of a flag's state in every one of some profiles.
 //!
-//! A word is compared in O(bytes). `state` costs O(log n) comparisons for n names of flags in rules, O(the package's
+//! A word is compared in O(bytes). `state` costs a look-up by hash of the rules that name the flag, O(the package's
 //! flags and keywords), O(the words of IUSE_IMPLICIT), O(the names of USE_EXPAND and USE_EXPAND_UNPREFIXED), for each
 //! implicit name among them that fits O(the names of variables and the values of that name), and O(the rules that name
 //! the flag, each with its atom); it takes no memory. `effective` costs O(bytes of all sources) to copy them, and the

@@ -5,7 +5,7 @@
 //! `VisiblePkgs` over it for each profile, and candidates among these for each level.
 //!
 //! - `visibility`: keywords and masks. O(the package's keywords and the masks of its category and name), besides the
-//!   look-up of these, O(log n) comparisons of names for n names in masks; without memory.
+//!   look-up of these by hash; without memory.
 //! - `pkg_index`: packages by category and name, in a hash map that `indexmap` keeps. O(packages) to make.
 //! - `candidates`: packages beside a stored test that is known to answer which are visible. `over` costs O(1), `new` as
 //!   much as an index. `next` takes no memory and costs a look-up, a binary search among the packages of the atom's
