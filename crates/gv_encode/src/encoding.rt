@@ -69,7 +69,8 @@ fn add_whole(alloc: Global, clauses: &mut Clauses, first: Lit, lits: &[Lit]) -> 
       clauses = clauses.old.clauses ++ (first ∷ lits.now) ∷ [];
     }) }
 {
-    let mut whole = Clause::of(alloc, &[first])?;
+    let mut whole = Clause::with_room(alloc, lits.len() + 1)?;
+    whole.add(first)?;
     for lit in lits {
         whole.add(*lit)?;
     }
@@ -89,7 +90,8 @@ fn add_whole_of_opposites(
       clauses = clauses.old.clauses ++ (first ∷ map opposite lits.now) ∷ [];
     }) }
 {
-    let mut turned = Clause::of(alloc, &[first])?;
+    let mut turned = Clause::with_room(alloc, lits.len() + 1)?;
+    turned.add(first)?;
     for lit in lits {
         turned.add(lit.opposite())?;
     }

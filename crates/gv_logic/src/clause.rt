@@ -35,6 +35,15 @@ impl Clause {
         }
     }
 
+    /// The empty clause, with room for so many literals.
+    pub fn with_room(alloc: Global, room: usize) -> Result<Clause, NoMemory>
+        ensures { IfOk result (λ clause. clause ≡ []) }
+    {
+        Ok(Clause {
+            items: Vec::with_capacity(alloc, room)?,
+        })
+    }
+
     /// The clause of these literals. There is no room for more than a clause can have.
     pub fn of(alloc: Global, lits: &[Lit]) -> Result<Clause, NoMemory>
         ensures { IfOk result (λ clause. clause ≡ lits.now) }
