@@ -1,21 +1,22 @@
 -- What an entry that is written, or comes, does to the numbers of an index; and the numbers of records with one more.
 use Rattle.std.proofs.Common.{◌≡◌, ℕ, ◌+◌, Bool, true, false, cond, List, [], ◌∷◌, ◌++◌, length, Some, None, refl, sym, ap, subst, ◌∙◌, arith}
 use Rattle.std.specs.Prelude.{Option, Result, Ok, Err, OnErr, unwrap_or, if◌then◌else◌}
-use Rattle.std.proofs.lemmas.Bool.{false≢true}
+use Rattle.std.proofs.lemmas.Bool.{eqb-true, false≢true}
 use Rattle.std.proofs.lemmas.Map.Text.{is_eq-slice_cmp}
 use Rattle.std.proofs.lemmas.Slice.Eq.{bytes_eq-Decides}
-use Rattle.std.specs.BTreeMap.{insert_entry}
+use Rattle.std.specs.BTreeMap.{insert_entry, is_at}
+use Rattle.std.specs.Cmp.{nat_cmp_is, unsigned_tied}
 use Rattle.std.specs.Cmp.Lexicographic.{same_text}
 use Rattle.std.specs.declared.cmp.Ordering.{Ordering}
 use Rattle.std.specs.declared.cmp.Ordering.TheVariants.{Less, Equal, Greater}
 use Rattle.std.specs.Map.{lookup, set_value}
 use Rattle.std.specs.Option.{option_map_or}
-use Rattle.std.specs.Ordering.{is_eq, match_ordering}
+use Rattle.std.specs.Ordering.{is_eq, match_ordering, nat_cmp}
 use Rattle.std.specs.Str.{bytes_eq}
 use Rattle.gv_base.specs.ByteMap.{Bytes, key_cmp, has_bytes}
 use Rattle.gv_base.specs.Order.{byte_cmp}
-use Rattle.gv_cert.specs.Index.{length_key, numbers_from, numbers_in, numbers_of}
-use Rattle.gv_cert.specs.declared.index.Queries.{Queries}
+use Rattle.gv_cert.specs.Index.{hash_of, numbers_among, numbers_from, numbers_of}
+use Rattle.gv_cert.specs.declared.index.Alike.{Alike}
 use Rattle.gv_cert.specs.Known.{KnownRecord}
 
 has_bytes_eq : (q : List ℕ) (k : Bytes) → has_bytes q k ≡ bytes_eq q k.items
@@ -113,40 +114,38 @@ numbers_kept es fs key numbers were sets q = ap (λ o. unwrap_or o []) (sets q) 
     by true same = sym were ∙ ap (λ o. unwrap_or o []) (sym (at_key es q key same))
     by false same = refl
 
--- The queries of a length.
-abbrev pub numbers_among : Option Queries → List ℕ → List ℕ
-numbers_among queries query = option_map_or (λ (qs : Queries). numbers_in qs query) queries []
+-- The queries of a hash.
+abbrev pub numbers_kept_in : Option Alike → List ℕ → List ℕ
+numbers_kept_in alike query = option_map_or (λ (a : Alike). numbers_among a query) alike []
 
 equal_bytes : (x : List ℕ) → bytes_eq x x ≡ true
 equal_bytes x = (bytes_eq-Decides x x).1 refl
 
-module _ (es fs : List (Bytes × Queries)) (name query : List ℕ) (is : name ≡ length_key query) (queries : Queries) (sets : Sets es fs name queries) where
-  -- a query of another length is another query
-  of_length : (q : List ℕ) → bytes_eq (length_key q) name ≡ false → bytes_eq q query ≡ false
-  of_length q other = by (bytes_eq q query) refl
+abbrev pub At : List (ℕ × Alike) → ℕ → Option Alike
+At es n = lookup (is_at (nat_cmp n)) es
+
+module _ (es fs : List (ℕ × Alike)) (query : List ℕ) (alike : Alike) (sets : (n : ℕ) → At fs n ≡ cond (is_at (nat_cmp (hash_of query)) n) (Some alike) (At es n)) where
+  -- a query of another hash is another query
+  of_hash : (q : List ℕ) → is_at (nat_cmp (hash_of query)) (hash_of q) ≡ false → bytes_eq q query ≡ false
+  of_hash q other = by (bytes_eq q query) refl
     where
       by : (s : Bool) → bytes_eq q query ≡ s → s ≡ false
-      by true same = absurd (false≢true (sym other ∙ (ap (λ z. bytes_eq (length_key z) name) (same_text q query (sym same)) ∙ (ap (λ z. bytes_eq z name) (sym is) ∙ equal_bytes name))))
+      by true same = absurd (false≢true (sym other ∙ (ap (λ z. is_at (nat_cmp (hash_of query)) (hash_of z)) (same_text q query (sym same)) ∙ ap is_eq (sym (nat_cmp_is (hash_of query) (hash_of query) Equal refl)))))
       by false is = refl
 
-  pub length_added : (number : ℕ)
-      → ((q : List ℕ) → numbers_in queries q ≡ (if bytes_eq q query then numbers_among (lookup (has_bytes name) es) q ++ number ∷ [] else numbers_among (lookup (has_bytes name) es) q))
-      → (q : List ℕ) → numbers_among (lookup (has_bytes (length_key q)) fs) q
-      ≡ (if bytes_eq q query then numbers_among (lookup (has_bytes (length_key q)) es) q ++ number ∷ [] else numbers_among (lookup (has_bytes (length_key q)) es) q)
-  length_added number added q = ap (λ o. numbers_among o q) (sets (length_key q)) ∙ by (bytes_eq (length_key q) name) refl
-    where
-      by : (s : Bool) → bytes_eq (length_key q) name ≡ s → numbers_among (if s then Some queries else lookup (has_bytes (length_key q)) es) q
-          ≡ (if bytes_eq q query then numbers_among (lookup (has_bytes (length_key q)) es) q ++ number ∷ [] else numbers_among (lookup (has_bytes (length_key q)) es) q)
-      by true same = added q ∙ ap (λ o. if bytes_eq q query then numbers_among o q ++ number ∷ [] else numbers_among o q) (sym (at_key es (length_key q) name same))
-      by false other = rw (of_length q other) refl
+  same_hash : (q : List ℕ) → is_at (nat_cmp (hash_of query)) (hash_of q) ≡ true → hash_of query ≡ hash_of q
+  same_hash q same = eqb-true (hash_of query) (hash_of q) (sym (unsigned_tied (hash_of query) (hash_of q)) ∙ same)
 
-  pub length_kept : ((q : List ℕ) → numbers_in queries q ≡ numbers_among (lookup (has_bytes name) es) q)
-      → (q : List ℕ) → numbers_among (lookup (has_bytes (length_key q)) fs) q ≡ numbers_among (lookup (has_bytes (length_key q)) es) q
-  length_kept kept q = ap (λ o. numbers_among o q) (sets (length_key q)) ∙ by (bytes_eq (length_key q) name) refl
+  pub hash_added : (number : ℕ)
+      → ((q : List ℕ) → numbers_among alike q ≡ (if bytes_eq q query then numbers_kept_in (At es (hash_of query)) q ++ number ∷ [] else numbers_kept_in (At es (hash_of query)) q))
+      → (q : List ℕ) → numbers_kept_in (At fs (hash_of q)) q
+      ≡ (if bytes_eq q query then numbers_kept_in (At es (hash_of q)) q ++ number ∷ [] else numbers_kept_in (At es (hash_of q)) q)
+  hash_added number added q = ap (λ o. numbers_kept_in o q) (sets (hash_of q)) ∙ by (is_at (nat_cmp (hash_of query)) (hash_of q)) refl
     where
-      by : (s : Bool) → bytes_eq (length_key q) name ≡ s → numbers_among (if s then Some queries else lookup (has_bytes (length_key q)) es) q ≡ numbers_among (lookup (has_bytes (length_key q)) es) q
-      by true same = kept q ∙ ap (λ o. numbers_among o q) (sym (at_key es (length_key q) name same))
-      by false other = refl
+      by : (s : Bool) → is_at (nat_cmp (hash_of query)) (hash_of q) ≡ s → numbers_kept_in (cond s (Some alike) (At es (hash_of q))) q
+          ≡ (if bytes_eq q query then numbers_kept_in (At es (hash_of q)) q ++ number ∷ [] else numbers_kept_in (At es (hash_of q)) q)
+      by true same = added q ∙ ap (λ h. if bytes_eq q query then numbers_kept_in (At es h) q ++ number ∷ [] else numbers_kept_in (At es h) q) (same_hash q same)
+      by false other = rw (of_hash q other) refl
 
 pub on_err : {T E P : Type 0} (r : Result T E) → P → OnErr r P
 on_err (Ok x) p = tt

@@ -1,10 +1,13 @@
 -- What private contracts say of the index of records: the numbers of all records at each query.
 use Rattle.std.specs.Prelude.{◌≡◌, ℕ, ◌+◌, ◌<◌, ◌^◌, nat_lt, Bool, not, if◌then◌else◌, List, [], ◌∷◌, length, unwrap_or}
-use Rattle.std.specs.Int.{w64, to_be_bytes}
+use Rattle.std.specs.BTreeMap.{is_at}
+use Rattle.std.specs.Hash.FoldHasher.{initial, write, finish}
 use Rattle.std.specs.Map.{lookup}
 use Rattle.std.specs.Option.{option_map_or}
+use Rattle.std.specs.Ordering.{nat_cmp}
 use Rattle.std.specs.Str.{bytes_eq}
 use Rattle.gv_base.specs.ByteMap.{has_bytes}
+use Rattle.gv_cert.specs.declared.index.Alike.{Alike}
 use Rattle.gv_cert.specs.declared.index.Index.{Index}
 use Rattle.gv_cert.specs.declared.index.Queries.{Queries}
 use Rattle.gv_cert.specs.Known.{KnownRecord}
@@ -17,17 +20,21 @@ numbers_from n query (r ∷ rs) = if bytes_eq query r.query then n ∷ numbers_f
 abbrev pub numbers_of : List ℕ → List KnownRecord → List ℕ
 numbers_of query known = numbers_from 0 query known
 
--- the numbers that are kept at a query of the length
+-- the numbers that are kept at a query, among those in one tree
 abbrev pub numbers_in : Queries → List ℕ → List ℕ
 numbers_in queries query = unwrap_or (lookup (has_bytes query) queries.map.entries) []
 
--- the queries of a length are kept at its bytes
-abbrev pub length_key : List ℕ → List ℕ
-length_key query = to_be_bytes w64 (length query)
+-- the same, among those of one hash
+abbrev pub numbers_among : Alike → List ℕ → List ℕ
+numbers_among alike query = if bytes_eq query alike.query then alike.numbers else numbers_in alike.others query
+
+-- queries are kept by what std's hasher makes of their bytes; any number that depends on these alone would do
+unfoldable pub hash_of : List ℕ → ℕ
+hash_of query = finish (write initial query)
 
 -- the numbers that the index has at a query
 abbrev pub numbers_at : Index → List ℕ → List ℕ
-numbers_at index query = option_map_or (λ (queries : Queries). numbers_in queries query) (lookup (has_bytes (length_key query)) index.by_length.entries) []
+numbers_at index query = option_map_or (λ (alike : Alike). numbers_among alike query) (lookup (is_at (nat_cmp (hash_of query))) index.by_hash.entries) []
 
 -- the index has the numbers of all records at each query
 abbrev pub HasAll : Index → List KnownRecord → Type 0

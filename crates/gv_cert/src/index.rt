@@ -1,15 +1,18 @@
-//! The numbers of records by their queries, in ordered trees: one over the lengths of queries, and in it one for each length.
+//! The numbers of records by their queries, in ordered trees: one over hashes of queries, and one more for each hash that
+//! several queries have, over the queries but the first of them.
 //!
-//! A look-up takes no memory and costs O(log n) comparisons of queries for n distinct ones of its length; an addition costs as
-//! much, and copies a query the first time that it comes. Whoever writes a file picks its queries, and a hash with a fixed
-//! seed would let him pick such as all collide; an order has no worse case than this.
-ghost use Rattle.std.specs.Prelude.{◌≡◌, ◌++◌, ◌∷◌, [], ℕ, List, if◌then◌else◌, OnOk, OnErr};
+//! A look-up takes no memory and costs O(bytes of the query), O(log n) comparisons of numbers for n distinct queries, and one
+//! comparison of queries where no other has the query's hash. An addition costs as much, and copies a query the first time
+//! that it comes. Whoever writes a file picks its queries, and may pick such as have one hash, whose seed is fixed: then
+//! O(log n) queries are compared.
+ghost use Rattle.std.specs.Prelude.{◌≡◌, ◌++◌, ◌∷◌, [], ℕ, List, if◌then◌else◌, IfOk, OnOk, OnErr};
 ghost use Rattle.std.specs.Str.{bytes_eq};
-ghost use Rattle.gv_cert.specs.Index.{length_key, numbers_at, numbers_in};
+ghost use Rattle.gv_cert.specs.Index.{hash_of, numbers_among, numbers_at, numbers_in};
 
-use gv_base::NoMemory;
+use gv_base::{NoMemory, Text};
 use std::alloc::Global;
 use std::collections::BTreeMap;
+use std::hash::{FoldHasher, Hasher};
 use std::marker::Model;
 
 /// Numbers of records, from 0.
@@ -50,7 +53,7 @@ impl Numbers {
     }
 }
 
-/// The numbers of the records of each query, among queries of one length.
+/// The numbers of the records of each query, among queries of one hash but the first of them.
 #[derive(Drop)]
 pub(crate) struct Queries {
     alloc: Global,
@@ -94,11 +97,56 @@ impl Queries {
     }
 }
 
+/// The same of all queries of one hash. Most often there is one: it stands here and not in a tree, whose node has room for
+/// many.
+#[derive(Drop)]
+pub(crate) struct Alike {
+    query: Text,
+    numbers: Numbers,
+    others: Queries,
+}
+
+impl Alike {
+    fn new(alloc: Global, query: &[u8], number: u32) -> Result<Alike, NoMemory>
+        ensures { IfOk result (λ alike. (q : List ℕ) → numbers_among alike q ≡ (if bytes_eq q query.now then number ∷ [] else [])) }
+    {
+        let mut numbers = Numbers::new(alloc);
+        numbers.add(number)?;
+        Ok(Alike {
+            query: Text::of(alloc, query)?,
+            numbers,
+            others: Queries::new(alloc),
+        })
+    }
+
+    fn at(&self, query: &[u8]) -> &[u32]
+        ensures { result.now ≡ numbers_among self.now query.now }
+    {
+        if query == self.query.bytes() {
+            self.numbers.items()
+        } else {
+            self.others.at(query)
+        }
+    }
+
+    // Adds a number at a query. After an error the numbers are as before.
+    fn add(&mut self, query: &[u8], number: u32) -> Result<(), NoMemory>
+        ensures ok { OnOk result ((q : List ℕ) → numbers_among self.new q ≡ (if bytes_eq q query.now then numbers_among self.old q ++ number ∷ [] else numbers_among self.old q)) }
+        ensures err { OnErr result ((q : List ℕ) → numbers_among self.new q ≡ numbers_among self.old q) }
+    {
+        if query == self.query.bytes() {
+            self.numbers.add(number)
+        } else {
+            self.others.add(query, number)
+        }
+    }
+}
+
 /// The numbers of the records of each query.
 #[derive(Drop)]
 pub(crate) struct Index {
     alloc: Global,
-    by_length: BTreeMap<Vec<u8>, Queries>,
+    by_hash: BTreeMap<u64, Alike>,
 }
 
 impl Index {
@@ -107,7 +155,7 @@ impl Index {
     {
         Index {
             alloc,
-            by_length: BTreeMap::new(alloc),
+            by_hash: BTreeMap::new(alloc),
         }
     }
 
@@ -115,9 +163,9 @@ impl Index {
     pub(crate) fn at(&self, query: &[u8]) -> &[u32]
         ensures { result.now ≡ numbers_at self.now query.now }
     {
-        let length = length_key(query);
-        match self.by_length.get(length.as_slice()) {
-            Some(queries) => queries.at(query),
+        let hash = hash_of(query);
+        match self.by_hash.get(&hash) {
+            Some(alike) => alike.at(query),
             None => &[],
         }
     }
@@ -127,30 +175,22 @@ impl Index {
         ensures ok { OnOk result ((q : List ℕ) → numbers_at self.new q ≡ (if bytes_eq q query.now then numbers_at self.old q ++ number ∷ [] else numbers_at self.old q)) }
         ensures err { OnErr result ((q : List ℕ) → numbers_at self.new q ≡ numbers_at self.old q) }
     {
-        self.add_among(&length_key(query), query, number)
-    }
-
-    // The same, by the key of the query's length.
-    fn add_among(&mut self, length: &[u8], query: &[u8], number: u32) -> Result<(), NoMemory>
-        requires { length.now ≡ length_key query.now }
-        ensures ok { OnOk result ((q : List ℕ) → numbers_at self.new q ≡ (if bytes_eq q query.now then numbers_at self.old q ++ number ∷ [] else numbers_at self.old q)) }
-        ensures err { OnErr result ((q : List ℕ) → numbers_at self.new q ≡ numbers_at self.old q) }
-    {
-        match self.by_length.get_mut(length) {
-            Some(queries) => queries.add(query, number)?,
+        let hash = hash_of(query);
+        match self.by_hash.get_mut(&hash) {
+            Some(alike) => alike.add(query, number)?,
             None => {
-                let mut queries = Queries::new(self.alloc);
-                queries.add(query, number)?;
-                let key = Vec::from_slice(self.alloc, length)?;
-                self.by_length.insert(key, queries)?;
+                let alike = Alike::new(self.alloc, query, number)?;
+                self.by_hash.insert(hash, alike)?;
             }
         }
         Ok(())
     }
 }
 
-fn length_key(query: &[u8]) -> [u8; 8]
-    ensures { result ≡ length_key query.now }
+fn hash_of(query: &[u8]) -> u64
+    ensures { result ≡ hash_of query.now }
 {
-    (query.len() as u64).to_be_bytes()
+    let mut hasher = FoldHasher::default();
+    hasher.write(query);
+    hasher.finish()
 }

@@ -1,8 +1,8 @@
 //! Records of query bytes and answer bytes.
 //!
-//! `insert` copies both, and the query once more for the index where it is new there; `find` costs O(log n) comparisons of
-//! queries for n distinct ones, and a binary search among the numbers of the query's records. The rest costs O(1), and a
-//! copy what is copied.
+//! `insert` copies both, and the query once more for the index where it is new there; `find` costs O(bytes of the query),
+//! O(log n) comparisons of numbers for n distinct queries, one of queries and O(log n) more among those of one hash, and a
+//! binary search among the numbers of the query's records. The rest costs O(1), and a copy what is copied.
 ghost use Rattle.std.specs.Prelude.{◌≡◌, ◌+◌, nat_lt, ◌<◌, ◌^◌, List, [], ◌∷◌, ◌++◌, length, filter, IfOk, OnOk, OnErr};
 ghost use Rattle.gv_cert.specs.Index.{is_from};
 ghost use Rattle.gv_cert.specs.Known.{record_at, answer_at, Finds};
