@@ -19,8 +19,8 @@ use crate::known::KnownFlag;
 use crate::sites::{AtomSite, ClassSites, PlaceSite, RequiredFlags};
 use gv_base::NoMemory;
 use gv_facts::{FlagState, Level, Pkg};
-use gv_usestate::{ProfileStates, kind_law};
-use gv_visible::VisiblePkgs;
+use gv_usestate::{PkgInProfile, ProfileStates, kind_law};
+use gv_visible::{BitList, VisiblePkgs};
 
 /// Two parents of the same EAPI have one and the same query about REQUIRED_USE where the keys of REQUIRED_USE are equal, and
 /// about a class where those of the whole query are.
@@ -96,8 +96,9 @@ fn add_own(
     ensures { OnOk result (key.new.items ≡ key.old.items ++ own_keys (state pkg.now states.now level) flags.now) }
 {
     key.reserve(flags.len())?;
+    let mut parent = PkgInProfile::new(pkg, states.profile(), level);
     for known in flags {
-        let state = states.state_as(known.kind, pkg, level, known.flag);
+        let state = states.state_in(&mut parent, known.kind, known.flag);
         key.push_reserved(own_key(state));
     }
     Ok(())
@@ -115,8 +116,9 @@ fn add_states(
     ensures { OnOk result (key.new.items ≡ key.old.items ++ other_keys (state pkg.now states.now level) flags.now) }
 {
     key.reserve(flags.len())?;
+    let mut candidate = PkgInProfile::new(pkg, states.profile(), level);
     for known in flags {
-        let state = states.state_as(known.kind, pkg, level, known.flag);
+        let state = states.state_in(&mut candidate, known.kind, known.flag);
         key.push_reserved(other_key(state));
     }
     Ok(())
@@ -139,7 +141,7 @@ fn add_candidate(
 // The package at this place, where it is visible.
 fn add_shown(
     site: &PlaceSite<'_>,
-    shown: &[bool],
+    shown: &BitList,
     pkgs: &[Pkg],
     states: &ProfileStates<'_>,
     level: Level,
@@ -150,7 +152,7 @@ fn add_shown(
     ensures { OnOk result (key.new.items ≡ key.old.items ++ place_key states.now level pkgs.now site.now) }
 {
     let place = site.place() as usize;
-    let is_shown = shown.get(place).copied();
+    let is_shown = shown.get(place);
     match pkgs.get(place) {
         Some(pkg) if is_shown == Some(true) => {
             add_candidate(site.flags(), pkg, states, level, key)
@@ -162,7 +164,7 @@ fn add_shown(
 // Each visible package that the atom matches, and the mark behind them.
 fn add_atom(
     site: &AtomSite<'_>,
-    shown: &[bool],
+    shown: &BitList,
     pkgs: &[Pkg],
     states: &ProfileStates<'_>,
     level: Level,
@@ -181,7 +183,7 @@ fn add_atom(
 
 fn add_atoms(
     sites: &[AtomSite<'_>],
-    shown: &[bool],
+    shown: &BitList,
     pkgs: &[Pkg],
     states: &ProfileStates<'_>,
     level: Level,

@@ -1,4 +1,5 @@
 pub mod FlagPlaces
 pub mod FlagSets
 pub mod Kinds
+pub mod PkgInProfile
 pub mod RulesInTurn

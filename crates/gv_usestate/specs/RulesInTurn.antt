@@ -1,6 +1,6 @@
 -- For the contracts of private functions: what one rule makes of an effect, where it is known whether stable restrictions
 -- apply.
-use Rattle.std.specs.Prelude.{ℕ, Bool, true, false, ◌&&◌, ◌||◌, not, if◌then◌else◌, List, slice_get}
+use Rattle.std.specs.Prelude.{ℕ, Bool, true, ◌&&◌, ◌||◌, not, if◌then◌else◌, List, slice_get}
 use Rattle.std.specs.Option.{option_map_or}
 use Rattle.gv_facts.specs.declared.pkg.Pkg.{Pkg}
 use Rattle.gv_facts.specs.declared.rules.Effect.{Effect}
@@ -19,7 +19,3 @@ behind effect p restricted on r = if counts effect p restricted r then r.on else
 -- and behind the rule at a place
 abbrev pub behind_at : Effect → Pkg → (restricted : Bool) → List Rule → Bool → ℕ → Bool
 behind_at effect p restricted rules on place = option_map_or (behind effect p restricted on) (slice_get rules place) on
-
--- whether the rule at a place counts only where stable restrictions apply
-abbrev pub is_stable_at : List Rule → ℕ → Bool
-is_stable_at rules place = option_map_or (λ (r : Rule). r.stable) (slice_get rules place) false

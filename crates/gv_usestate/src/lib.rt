@@ -6,6 +6,7 @@
 //! - `sources`: whether a flag is effective, source by source, without a list of the effective flags.
 //! - `flags`: that list.
 //! - `restricted`: where stable restrictions apply.
+//! - `pkg_in_profile`: a package in a profile at a level, and which rules apply to it.
 //! - `states`: the state of a flag, by the rules that name it and no others.
 //! - `profile_states`: a profile with these rules in a hash map and its own effective flags in a hash set, for many flags of many
 //!   packages.
@@ -19,16 +20,16 @@
 #![tactic(auto)]
 
 mod flags;
+mod pkg_in_profile;
 mod profile_states;
 mod restricted;
 mod ruled;
 mod sources;
 mod states;
-#[cfg(test)]
-mod tests;
 
 pub use flags::effective;
 pub use gv_facts::FlagState;
+pub use pkg_in_profile::PkgInProfile;
 pub use profile_states::ProfileStates;
 pub use ruled::{FlagKind, RuledFlags, kind_law};
 pub use states::{state, state_of};

@@ -3,8 +3,9 @@
 //! `new` costs O(1) on average for each rule, besides its look-up in the list of rules, and O(bytes) for each flag that the
 //! profile makes effective, which it copies. `state` takes no memory, and costs what `state` of the package, the profile, the
 //! level and the flag does, with a look-up by hash in place of the profile's sources of effective flags, and one in place of
-//! comparisons of names. `state_as` is told what is known of the flag: a plain one costs O(1), and another one look-up where
-//! the profile doesn't make it effective, two at most, and the rules that name it.
+//! comparisons of names. `state_in` is told what is known of the flag: a plain one costs O(1), and another one look-up where
+//! the profile doesn't make it effective, two at most, and the rules that name it; for all flags of a package it finds once
+//! whether stable restrictions apply.
 ghost use Rattle.std.specs.Prelude.{◌≡◌, false, List, ℕ, IfOk};
 ghost use Rattle.gv_base.specs.Order.{has_text};
 ghost use Rattle.gv_facts.specs.Effective.{is_effective};
@@ -14,6 +15,7 @@ ghost use Rattle.gv_usestate.specs.FlagSets.{AreImplicit, has_owned, implicit_fl
 ghost use Rattle.gv_usestate.specs.Kinds.{IsKind};
 
 use crate::flags::add_implicit;
+use crate::pkg_in_profile::PkgInProfile;
 use crate::ruled::FlagKind;
 use crate::states::effective_state;
 use gv_base::{NoMemory, Texts};
@@ -93,30 +95,35 @@ impl<'a> ProfileStates<'a> {
         if !self.is_effective(pkg, flag) {
             return FlagState::Absent;
         }
-        effective_state(pkg, self.profile(), level, flag, self.at(flag))
+        let mut pkg = PkgInProfile::new(pkg, self.profile(), level);
+        effective_state(&mut pkg, flag, self.at(flag))
     }
 
     // The state of a flag that the profile makes effective, or doesn't.
-    fn implicit_state(&self, pkg: &Pkg, level: Level, flag: &[u8]) -> FlagState
-        requires { has_text pkg.now.iuse flag.now ≡ false }
-        ensures { result ≡ state pkg.now self.now level flag.now }
+    fn implicit_state(&self, pkg: &mut PkgInProfile<'_>, flag: &[u8]) -> FlagState
+        requires profile { pkg.old.profile ≡ self.now }
+        requires other { has_text pkg.old.pkg.iuse flag.now ≡ false }
+        ensures value { result ≡ state pkg.old.pkg self.now pkg.old.level flag.now }
+        ensures same { pkg.new ≡ pkg.old }
     {
         if !self.is_implicit(flag) {
             return FlagState::Absent;
         }
-        effective_state(pkg, self.profile(), level, flag, self.at(flag))
+        effective_state(pkg, flag, self.at(flag))
     }
 
-    /// The same of a flag of which is known how far its state rests on the profile.
+    /// The same of a flag of which is known how far its state rests on the profile, for a package in this profile.
     #[tactic(auto, using(crate::proofs::KindLaw::plain_free))]
-    pub fn state_as(&self, kind: FlagKind, pkg: &Pkg, level: Level, flag: &[u8]) -> FlagState
-        requires { IsKind self.now pkg.now flag.now kind }
-        ensures { result ≡ state pkg.now self.now level flag.now }
+    pub fn state_in(&self, pkg: &mut PkgInProfile<'_>, kind: FlagKind, flag: &[u8]) -> FlagState
+        requires profile { pkg.old.profile ≡ self.now }
+        requires kind { IsKind self.now pkg.old.pkg flag.now kind }
+        ensures value { result ≡ state pkg.old.pkg self.now pkg.old.level flag.now }
+        ensures same { pkg.new ≡ pkg.old }
     {
         match kind {
             FlagKind::Plain => FlagState::Free,
-            FlagKind::Listed => { effective_state(pkg, self.profile(), level, flag, self.at(flag)) }
-            FlagKind::Other => self.implicit_state(pkg, level, flag),
+            FlagKind::Listed => effective_state(pkg, flag, self.at(flag)),
+            FlagKind::Other => self.implicit_state(pkg, flag),
         }
     }
 }

@@ -6,6 +6,9 @@ use Rattle.gv_lower.proofs.keys.add_states.Given as goal
 
 abbrev pub invariant-loop-known : goal.invariant-loop-known
 invariant-loop-known l = record {
-  added : l.key.items ++ other_keys (state l.pkg l.states l.level) (drop l.known-index l.flags) ≡ l.initial.key.items ++ other_keys (state l.pkg l.states l.level) l.flags;
+  added : l.key.items ++ other_keys (state l.pkg l.states l.fn.level) (drop l.known-index l.flags) ≡ l.initial.key.items ++ other_keys (state l.pkg l.states l.fn.level) l.flags;
   room : vec_len l.key + length (drop l.known-index l.flags) ≤ vec_capacity l.key;
+  pkg : l.candidate.pkg ≡ l.pkg;
+  profile : l.candidate.profile ≡ l.states;
+  level : l.candidate.level ≡ l.fn.level;
 }
