@@ -1,3 +1,4 @@
+pub mod BitLists
 mod MaskPlaces
 pub mod NameMap
 mod NextPlaces

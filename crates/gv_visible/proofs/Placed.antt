@@ -1,7 +1,7 @@
 -- What stands at the places of the items that pass a test.
-use Rattle.std.proofs.Common.{◌≡◌, ℕ, ◌+◌, Bool, true, false, cond, List, [], ◌∷◌, ◌++◌, length, Some, map, arith, refl, sym, ap, ◌∙◌, append_assoc, length-append}
-use Rattle.std.specs.Prelude.{None, Option, filter, if◌then◌else◌, slice_get}
-use Rattle.std.specs.List.{cons_option, filter_map}
+use Rattle.std.proofs.Common.{◌≡◌, ℕ, ◌+◌, Bool, true, false, cond, List, [], ◌∷◌, ◌++◌, length, Some, map, arith, refl, sym, ap, subst, ◌∙◌, append_assoc, length-append}
+use Rattle.std.specs.Prelude.{None, Option, filter, if◌then◌else◌, slice_get, unwrap_or}
+use Rattle.std.specs.List.{AllByRecursion, cons_option, filter_map}
 use Rattle.std.specs.Str.{bytes_eq}
 use Rattle.std.proofs.lemmas.Bool.{false≢true}
 use Rattle.gv_atom.specs.declared.atom.Atom.{Atom}
@@ -9,6 +9,7 @@ use Rattle.gv_facts.specs.declared.kinds.Level.{Level}
 use Rattle.gv_facts.specs.declared.pkg.Pkg.{Pkg}
 use Rattle.gv_facts.specs.declared.profile.Profile.{Profile}
 use Rattle.gv_facts.specs.Places.{is_pkg_of, places_from, places_of}
+use Rattle.gv_visible.specs.PkgIndex.{IsNamedAt}
 use Rattle.gv_visible.specs.VisiblePkgs.{if_shown, shown_at, shows}
 use Rattle.gv_visible.proofs.NextPlaces.{front_three}
 
@@ -37,6 +38,33 @@ module _ {X : Type 0} (test : X → Bool) where
 
   pub items_at : (xs : List X) → map (slice_get xs) (places_of test xs) ≡ map Some (filter test xs)
   items_at xs = items_from [] xs
+
+some_same : {X : Type 0} (x y : X) → Some x ≡ Some y → x ≡ y
+some_same x y e = ap (λ o. unwrap_or o x) e
+
+-- what stands at these places passes
+module _ {X : Type 0} (test : X → Bool) where
+  passes_from : (front xs : List X) → AllByRecursion (λ p. (y : X) → slice_get (front ++ xs) p ≡ Some y → test y ≡ true) (places_from (length front) test xs)
+  passes_from front [] = tt
+  passes_from front (x ∷ xs) = by (test x) refl (shifted (passes_from (front ++ x ∷ []) xs))
+    where
+      Passes : ℕ → Type 0
+      Passes p = (y : X) → slice_get (front ++ x ∷ xs) p ≡ Some y → test y ≡ true
+
+      shifted : AllByRecursion (λ p. (y : X) → slice_get ((front ++ x ∷ []) ++ xs) p ≡ Some y → test y ≡ true) (places_from (length (front ++ x ∷ [])) test xs)
+          → AllByRecursion Passes (places_from (length front + 1) test xs)
+      shifted h =
+          let whole : (front ++ x ∷ []) ++ xs ≡ front ++ x ∷ xs = append_assoc front (x ∷ []) xs in
+          let one_more : length (front ++ x ∷ []) ≡ length front + 1 = omega (arith, length-append front (x ∷ [])) in
+          rw (whole, one_more) at h
+
+      by : (b : Bool) → test x ≡ b → AllByRecursion Passes (places_from (length front + 1) test xs)
+          → AllByRecursion Passes (if b then length front ∷ places_from (length front + 1) test xs else places_from (length front + 1) test xs)
+      by true e h = (λ y there. subst (λ z. test z ≡ true) (some_same x y (sym (at_length test front x xs) ∙ there)) e, h)
+      by false e h = h
+
+pub all_named : (category name : List ℕ) (pkgs : List Pkg) → AllByRecursion (IsNamedAt category name pkgs) (places_of (is_pkg_of category name) pkgs)
+all_named category name pkgs = passes_from (is_pkg_of category name) [] pkgs
 
 filter_map-map : {A B C : Type 0} (g : B → Option C) (f : A → B) (xs : List A) → filter_map g (map f xs) ≡ filter_map (λ x. g (f x)) xs
 filter_map-map g f [] = refl

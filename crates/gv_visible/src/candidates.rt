@@ -12,6 +12,7 @@ ghost use Rattle.gv_visible.specs.StoredTest.{AnswersVisible};
 ghost use Rattle.gv_visible.specs.Candidates.{level_of, pkgs_of, profile_of, test_of};
 ghost use Rattle.gv_visible.specs.HeldIndex.{held};
 
+use crate::bit_list::BitList;
 use crate::pkg_index::PkgIndex;
 use crate::visible_pkgs::VisiblePkgs;
 use gv_atom::Atom;
@@ -58,7 +59,7 @@ pub struct Candidates<'a, F: Fn(&Pkg) -> bool> {
     level: Level,
     test: F,
     // What is visible, where it was asked of all.
-    kept: Option<&'a [bool]>,
+    kept: Option<&'a BitList>,
 }
 
 impl<'a, F: Fn(&Pkg) -> bool> Model for Candidates<'a, F> {
@@ -173,7 +174,7 @@ impl<'a, F: Fn(&Pkg) -> bool> Candidates<'a, F> {
         ensures { (pkg : Pkg) → slice_get (pkgs_of self.now) place ≡ Some pkg → IfSome result (λ shown. shown ≡ visible pkg (profile_of self.now) (level_of self.now)) }
     {
         match self.kept {
-            Some(kept) => kept.get(place as usize).copied(),
+            Some(kept) => kept.get(place as usize),
             None => None,
         }
     }

@@ -13,20 +13,19 @@
 //!   atom), and where it matches O(bytes of the package) and a call of the test.
 //! - `mask_index`: the masks of a profile by category and name, in a hash map.
 //! - `visible_pkgs`: what a profile shows of all packages, asked once.
-//! - `caller`: searches as the layers above make them.
+//! - `bit_list`: lists of bits, as which that is kept: 64 in a word.
 #![tactic(auto)]
 
-mod caller;
+mod bit_list;
 mod candidates;
 mod mask_index;
 mod pkg_index;
-#[cfg(test)]
-mod tests;
 mod visibility;
 mod visible_pkgs;
 
+pub use bit_list::BitList;
 pub use candidates::Candidates;
-pub use mask_index::MaskIndex;
+pub use mask_index::{MaskIndex, Shown};
 pub use pkg_index::PkgIndex;
 pub use visibility::{judged, visible};
 pub use visible_pkgs::VisiblePkgs;

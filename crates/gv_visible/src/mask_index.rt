@@ -1,18 +1,28 @@
 //! A profile's masks by category and name.
 //!
-//! `new` costs O(1) on average for each mask, besides its look-up in the list of masks; `visible` costs a look-up by hash,
-//! O(bytes of category and name), and the package's keywords and the masks of its category and name, and takes no memory.
+//! `new` costs O(1) on average for each mask, besides its look-up in the list of masks; `visible` and `shown` cost the
+//! package's keywords and, where these accept it, a look-up by hash, O(bytes of category and name), and the masks of its
+//! category and name, and take no memory.
 ghost use Rattle.std.specs.Prelude.{◌≡◌, IfOk};
+ghost use Rattle.gv_base.specs.Order.{has_text};
 ghost use Rattle.gv_facts.specs.Places.{is_mask_of, places_of};
-ghost use Rattle.gv_facts.specs.Visible.{is_masked, visible};
+ghost use Rattle.gv_facts.specs.Visible.{is_masked, testing, visible};
+ghost use Rattle.gv_facts.specs.declared.kinds.Level.TheVariants.{Stable, Testing};
 ghost use Rattle.gv_visible.specs.ByName.{HasPlaces};
 
 use crate::visibility::some_matches;
-use gv_base::NoMemory;
-use gv_facts::{Level, Masks, Pkg, Profile, accepts};
+use gv_base::{NoMemory, Texts};
+use gv_facts::{Level, Masks, Pkg, Profile, accepts, is_testing};
 use indexmap::IndexMap;
 use std::alloc::Global;
 use std::marker::Model;
+
+/// At which levels a profile shows a package.
+#[derive(Clone, Copy)]
+pub struct Shown {
+    pub stable: bool,
+    pub testing: bool,
+}
 
 /// A profile with the places of its masks of each category and name: made once for the profile, and lent to the tests of
 /// every level.
@@ -73,6 +83,34 @@ impl<'a> MaskIndex<'a> {
         let arch = self.profile().arch.bytes();
         accepts(level, arch, &pkg.keywords) && !self.is_masked(pkg)
     }
+
+    /// At which levels the profile shows the package: what `visible` says at each.
+    pub fn shown(&self, pkg: &Pkg) -> Shown
+        ensures stable { result.stable ≡ visible pkg.now self.now Stable }
+        ensures testing { result.testing ≡ visible pkg.now self.now Testing }
+    {
+        let arch = self.profile().arch.bytes();
+        // What accepts at stable accepts at testing too.
+        let stable = pkg.keywords.has(arch);
+        let accepted = stable || has_testing(&pkg.keywords, arch);
+        let testing = accepted && !self.is_masked(pkg);
+        Shown {
+            stable: stable && testing,
+            testing,
+        }
+    }
+}
+
+// Whether one of the keywords is the arch with `~`.
+fn has_testing(keywords: &Texts, arch: &[u8]) -> bool
+    ensures { result ≡ has_text keywords.now (testing arch.now) }
+{
+    for keyword in keywords.items() {
+        if is_testing(arch, keyword.bytes()) {
+            return true;
+        }
+    }
+    false
 }
 
 // The places of the masks of each category and name.

@@ -3,8 +3,11 @@
 //! `new` costs O(1) on average for each package, besides its look-up in the list of packages; `at` costs a look-up by hash,
 //! O(bytes of category and name), and takes no memory.
 ghost use Rattle.std.specs.Prelude.{◌≡◌, IfOk};
+ghost use Rattle.std.specs.List.{AllByRecursion};
 ghost use Rattle.gv_facts.specs.Places.{is_pkg_of, places_of};
+ghost use Rattle.gv_visible.specs.PkgIndex.{IsNamedAt};
 
+use gv_atom::Atom;
 use gv_base::NoMemory;
 use gv_facts::Pkgs;
 use indexmap::IndexMap;
@@ -51,6 +54,15 @@ impl<'a> PkgIndex<'a> {
         ensures { result.now ≡ self.now }
     {
         self.pkgs
+    }
+
+    /// The places, from 0 and ascending, of the packages that have the atom's category and name.
+    #[tactic(auto, using(crate::proofs::Placed::all_named))]
+    pub fn named(&self, atom: &Atom) -> &[u32]
+        ensures places { result.now ≡ places_of (is_pkg_of atom.now.category atom.now.name) self.now }
+        ensures named { AllByRecursion (IsNamedAt atom.now.category atom.now.name self.now) result.now }
+    {
+        self.at(atom.category.bytes(), atom.name.bytes())
     }
 
     /// The places, from 0 and ascending, of the packages of this category and name.

@@ -1,12 +1,14 @@
 //! The packages that a profile shows, asked of all of them at once.
 //!
-//! `new` costs an index of the masks and a test of each package at each level, and keeps a byte for each; the other calls cost
-//! O(1) and take no memory.
+//! `new` costs an index of the masks and a test of each package, which tells of both levels, and keeps a bit for each level;
+//! the other calls cost O(1) and take no memory.
 ghost use Rattle.std.specs.Prelude.{◌≡◌, Some, slice_get, IfOk};
 ghost use Rattle.gv_facts.specs.Visible.{judged, visible};
 ghost use Rattle.gv_facts.specs.declared.pkg.Pkg.{Pkg};
+ghost use Rattle.gv_visible.specs.Tested.{AreAllKept};
 ghost use Rattle.gv_visible.specs.VisiblePkgs.{are_visible};
 
+use crate::bit_list::BitList;
 use crate::mask_index::MaskIndex;
 use crate::pkg_index::PkgIndex;
 use gv_base::NoMemory;
@@ -20,8 +22,8 @@ use std::marker::Model;
 pub struct VisiblePkgs<'a> {
     index: &'a PkgIndex<'a>,
     profile: &'a Profile,
-    stable: Vec<bool>,
-    testing: Vec<bool>,
+    stable: BitList,
+    testing: BitList,
 }
 
 impl<'a> Model for VisiblePkgs<'a> {
@@ -32,7 +34,7 @@ impl<'a> Model for VisiblePkgs<'a> {
 
     ghost view = { λ v. record { pkgs = v.index.now; profile = v.profile.now } };
 
-    ghost invariant = { λ v. AreAllKept v.stable.items v.testing.items v.profile.now v.index.now };
+    ghost invariant = { λ v. AreAllKept v.stable v.testing v.profile.now v.index.now };
 }
 
 impl<'a> VisiblePkgs<'a> {
@@ -46,8 +48,7 @@ impl<'a> VisiblePkgs<'a> {
     {
         let masks = MaskIndex::new(alloc, profile)?;
         let pkgs = index.pkgs().items();
-        let stable = shown(alloc, pkgs, &masks, Level::Stable)?;
-        let testing = shown(alloc, pkgs, &masks, Level::Testing)?;
+        let (stable, testing) = shown(alloc, pkgs, &masks)?;
         Ok(VisiblePkgs {
             index,
             profile,
@@ -71,7 +72,7 @@ impl<'a> VisiblePkgs<'a> {
     }
 
     /// Of each package whether it is visible at the level.
-    pub fn at(&self, level: Level) -> &[bool]
+    pub fn at(&self, level: Level) -> &BitList
         ensures { result.now ≡ are_visible self.now.profile level self.now.pkgs }
     {
         match level {
@@ -84,7 +85,7 @@ impl<'a> VisiblePkgs<'a> {
         ensures { (pkg : Pkg) → slice_get self.now.pkgs number ≡ Some pkg → result ≡ visible pkg self.now.profile level }
     {
         match self.at(level).get(number as usize) {
-            Some(shown) => *shown,
+            Some(shown) => shown,
             None => false,
         }
     }
@@ -104,18 +105,16 @@ impl<'a> VisiblePkgs<'a> {
     }
 }
 
-// Whether each package is visible at the level.
-fn shown(
-    alloc: Global,
-    pkgs: &[Pkg],
-    masks: &MaskIndex<'_>,
-    level: Level,
-) -> Result<Vec<bool>, NoMemory>
-    ensures { IfOk result (λ shown. shown.items ≡ are_visible masks.now level pkgs.now) }
+// Of each package whether it is visible at stable, and of each whether at testing.
+fn shown(alloc: Global, pkgs: &[Pkg], masks: &MaskIndex<'_>) -> Result<(BitList, BitList), NoMemory>
+    ensures { IfOk result (λ shown. AreAllKept shown.0 shown.1 masks.now pkgs.now) }
 {
-    let mut shown = Vec::with_capacity(alloc, pkgs.len())?;
+    let mut stable = BitList::with_capacity(alloc, pkgs.len())?;
+    let mut testing = BitList::with_capacity(alloc, pkgs.len())?;
     for pkg in pkgs {
-        shown.push(masks.visible(pkg, level))?;
+        let shown = masks.shown(pkg);
+        stable.push(shown.stable)?;
+        testing.push(shown.testing)?;
     }
-    Ok(shown)
+    Ok((stable, testing))
 }

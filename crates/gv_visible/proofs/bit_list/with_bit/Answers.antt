@@ -1,0 +1,15 @@
+use Rattle.std.proofs.Common.{w64}
+use Rattle.std.proofs.lemmas.Nat.Bits.{bit_at_clear_other, bit_at_clear_same, bit_at_set_other, bit_at_set_same}
+use Rattle.gv_visible.proofs.bit_list.with_bit.Goals as goal
+
+pub returns-then-bit-clause-here : goal.returns-then-bit-clause-here
+returns-then-bit-clause-here c = rw c.if-bit.true (bit_at_set_same w64 c.args.word c.args.place c.requires)
+
+pub returns-then-bit-clause-others : goal.returns-then-bit-clause-others
+returns-then-bit-clause-others c = λ i low apart. bit_at_set_other w64 c.args.word c.args.place c.requires i apart
+
+pub returns-else-bit-clause-here : goal.returns-else-bit-clause-here
+returns-else-bit-clause-here c = rw c.if-bit.false (bit_at_clear_same w64 c.args.word c.args.place c.requires)
+
+pub returns-else-bit-clause-others : goal.returns-else-bit-clause-others
+returns-else-bit-clause-others c = λ i low apart. bit_at_clear_other w64 c.args.word c.args.place c.requires i low apart
