@@ -30,6 +30,9 @@ slot_holds Any slot sub = true
 slot_holds (Slot wanted) slot sub = bytes_eq wanted slot
 slot_holds (Both wanted wanted_sub) slot sub = bytes_eq wanted slot && bytes_eq wanted_sub sub
 
+-- of a package that has the atom's category and name
+abbrev pub matches_named : Atom → (version slot sub : List ℕ) → Bool
+matches_named a version slot sub = version_holds a.op a.version a.star version && slot_holds a.slot slot sub
+
 abbrev pub matches : Atom → (category name version slot sub : List ℕ) → Bool
-matches a category name version slot sub = bytes_eq a.category category && (bytes_eq a.name name
-    && (version_holds a.op a.version a.star version && slot_holds a.slot slot sub))
+matches a category name version slot sub = bytes_eq a.category category && (bytes_eq a.name name && matches_named a version slot sub)

@@ -17,13 +17,11 @@ mod naming;
 mod printing;
 mod reading;
 mod slots;
-#[cfg(test)]
-mod tests;
 
 pub use atom::{Atom, Block, CompareOp, SlotMark, SlotNeed};
 pub use fault::{AtomFault, AtomKind};
 pub use items::{Ask, UseItem, UseItems};
 pub use laws::atom_law;
-pub use matching::matches;
+pub use matching::{matches, matches_named};
 pub use printing::print_atom;
 pub use reading::read_atom;

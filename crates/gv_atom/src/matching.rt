@@ -1,6 +1,6 @@
 //! Which packages an atom matches. O(bytes), without memory.
 ghost use Rattle.std.specs.Prelude.{◌≡◌};
-ghost use Rattle.gv_atom.specs.Matching.{matches, op_holds, slot_holds, version_holds};
+ghost use Rattle.gv_atom.specs.Matching.{matches, matches_named, op_holds, slot_holds, version_holds};
 
 use crate::{Atom, CompareOp, SlotNeed};
 use gv_base::Text;
@@ -18,10 +18,14 @@ pub fn matches(
 ) -> bool
     ensures { result ≡ matches atom.now category.now name.now version.now slot.now sub.now }
 {
-    atom.category == *category
-        && atom.name == *name
-        && version_holds(atom, version)
-        && slot_holds(&atom.slot, slot, sub)
+    atom.category == *category && atom.name == *name && matches_named(atom, version, slot, sub)
+}
+
+/// The same of a package that has the atom's category and name.
+pub fn matches_named(atom: &Atom, version: &Version, slot: &Text, sub: &Text) -> bool
+    ensures { result ≡ matches_named atom.now version.now slot.now sub.now }
+{
+    version_holds(atom, version) && slot_holds(&atom.slot, slot, sub)
 }
 
 fn op_holds(op: CompareOp, star: bool, wanted: &Version, version: &Version) -> bool

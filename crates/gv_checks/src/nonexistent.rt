@@ -3,10 +3,11 @@
 //! O(a class's trees), down at most 64 groups, and for each atom a look-up by hash of its category and name, and a test
 //! of the packages of that name.
 ghost use Rattle.std.specs.Prelude.{◌≡◌, ◌++◌, ◌∷◌, [], map, filter, flat_map, IfOk, OnOk};
-ghost use Rattle.std.specs.List.{list_any};
+ghost use Rattle.std.specs.List.{AllByRecursion, list_any};
 ghost use Rattle.gv_expr.specs.Dep.{deps};
 ghost use Rattle.gv_expr.specs.DepView.{dep_of};
 ghost use Rattle.gv_expr.specs.Mentions.{with_atom};
+ghost use Rattle.gv_visible.specs.PkgIndex.{IsNamedAt};
 ghost use Rattle.gv_checks.specs.Plain.{matches_at, nowhere_in, told_nonexistent};
 ghost use Rattle.gv_checks.specs.RepoReports.{is_nowhere, is_readable, nonexistent, nonexistent_in};
 
@@ -16,7 +17,7 @@ use gv_atom::{Atom, Block, print_atom};
 use gv_base::NoMemory;
 use gv_entry::{Body, class_in};
 use gv_expr::{DepExpr, DepTree};
-use gv_facts::{Class, Pkg, has_class, matches_pkg};
+use gv_facts::{Class, Pkg, has_class, matches_named};
 use gv_report::{Keyword, Options, Report, Reports};
 use gv_visible::PkgIndex;
 use std::alloc::Global;
@@ -45,17 +46,19 @@ pub(crate) fn add_nonexistent(
     Ok(())
 }
 
-// Whether the package at this place matches.
+// Whether the package at this place, which has the atom's category and name, matches.
 fn matches_at(pkgs: &[Pkg], place: u32, atom: &Atom) -> bool
+    requires { IsNamedAt atom.now.category atom.now.name pkgs.now place }
     ensures { result ≡ matches_at atom.now pkgs.now place }
 {
     match pkgs.get(place as usize) {
-        Some(pkg) => matches_pkg(atom, pkg),
+        Some(pkg) => matches_named(atom, pkg),
         None => false,
     }
 }
 
 fn some_match(pkgs: &[Pkg], places: &[u32], atom: &Atom) -> bool
+    requires { AllByRecursion (IsNamedAt atom.now.category atom.now.name pkgs.now) places.now }
     ensures { result ≡ list_any (matches_at atom.now pkgs.now) places.now }
 {
     for place in places {
@@ -70,8 +73,7 @@ fn some_match(pkgs: &[Pkg], places: &[u32], atom: &Atom) -> bool
 fn is_nowhere(index: &PkgIndex<'_>, atom: &Atom) -> bool
     ensures { result ≡ is_nowhere index.now atom.now }
 {
-    let places = index.at(atom.category.bytes(), atom.name.bytes());
-    !some_match(index.pkgs().items(), places, atom)
+    !some_match(index.pkgs().items(), index.named(atom), atom)
 }
 
 fn nonexistent(alloc: Global, pkg: &Pkg, class: Class, atom: &Atom) -> Result<Report, NoMemory>

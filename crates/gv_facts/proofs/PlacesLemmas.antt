@@ -1,10 +1,15 @@
 -- The places of a list with one more item.
 use Rattle.std.proofs.Common.{◌≡◌, ℕ, ◌+◌, Bool, true, false, List, [], ◌∷◌, ◌++◌, length, arith, map, filter, Some, refl, append_assoc, length-append, sym, ap, subst, ◌∙◌}
-use Rattle.std.specs.Prelude.{if◌then◌else◌, slice_get}
+use Rattle.std.specs.Prelude.{◌&&◌, if◌then◌else◌, slice_get}
 use Rattle.std.proofs.lemmas.Slice.Eq.{bytes_eq-Decides}
 use Rattle.std.specs.Cmp.Lexicographic.{same_text}
 use Rattle.std.specs.Str.{bytes_eq}
-use Rattle.gv_facts.specs.Places.{places_from, places_of}
+use Rattle.std.proofs.lemmas.Bool.{false≢true}
+use Rattle.gv_atom.specs.declared.atom.Atom.{Atom}
+use Rattle.gv_atom.specs.Matching.{matches_named}
+use Rattle.gv_facts.specs.declared.pkg.Pkg.{Pkg}
+use Rattle.gv_facts.specs.Places.{is_pkg_of, places_from, places_of}
+use Rattle.gv_facts.specs.Visible.{matches_pkg}
 
 pub same_flag : (f : List ℕ) → bytes_eq f f ≡ true
 same_flag f = (bytes_eq-Decides f f).1 refl
@@ -65,3 +70,12 @@ module _ {A : Type 0} (test : A → Bool) where
 
   pub at_places : (xs : List A) → map (slice_get xs) (places_of test xs) ≡ map Some (filter test xs)
   at_places xs = at_from [] xs
+
+both_hold : (x y z : Bool) → (x && y) ≡ true → z ≡ (x && (y && z))
+both_hold true true z h = refl
+both_hold true false z h = absurd (false≢true h)
+both_hold false y z h = absurd (false≢true h)
+
+-- of a package with the atom's category and name
+pub named_matches : (a : Atom) (p : Pkg) → is_pkg_of a.category a.name p ≡ true → matches_named a p.version p.slot p.sub ≡ matches_pkg a p
+named_matches a p h = both_hold (bytes_eq a.category p.category) (bytes_eq a.name p.name) (matches_named a p.version p.slot p.sub) h

@@ -19,8 +19,6 @@ mod masks;
 mod pkg;
 mod profile;
 mod rules;
-#[cfg(test)]
-mod tests;
 mod value_lists;
 mod visible;
 
@@ -31,4 +29,4 @@ pub use pkg::{Pkg, Pkgs};
 pub use profile::{Profile, Profiles};
 pub use rules::{Effect, Rule, Rules};
 pub use value_lists::{ValueList, ValueLists};
-pub use visible::{accepts, is_testing, matches_pkg};
+pub use visible::{accepts, is_testing, matches_named, matches_pkg};

@@ -1,8 +1,9 @@
 //! The calls by which packages are compared with atoms and with keywords, for the crates that judge. Each is linear in the
 //! bytes that it compares, and takes no memory.
-ghost use Rattle.std.specs.Prelude.{◌≡◌};
+ghost use Rattle.std.specs.Prelude.{◌≡◌, true};
 ghost use Rattle.std.specs.Str.{bytes_eq};
 ghost use Rattle.gv_base.specs.Order.{has_text};
+ghost use Rattle.gv_facts.specs.Places.{is_pkg_of};
 ghost use Rattle.gv_facts.specs.Visible.{accepts, matches_pkg, testing};
 
 use crate::{Level, Pkg};
@@ -21,6 +22,15 @@ pub fn matches_pkg(atom: &Atom, pkg: &Pkg) -> bool
         &pkg.slot,
         &pkg.sub,
     )
+}
+
+/// The same of a package that has the atom's category and name. Where any version and slot will do, nothing is looked at.
+#[tactic(auto, using(crate::proofs::PlacesLemmas::named_matches))]
+pub fn matches_named(atom: &Atom, pkg: &Pkg) -> bool
+    requires { is_pkg_of atom.now.category atom.now.name pkg.now ≡ true }
+    ensures { result ≡ matches_pkg atom.now pkg.now }
+{
+    gv_atom::matches_named(atom, &pkg.version, &pkg.slot, &pkg.sub)
 }
 
 /// Whether the keywords accept a package at this level: at stable where they have the arch, at testing where they have it,

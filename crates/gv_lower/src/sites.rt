@@ -8,6 +8,7 @@ ghost use Rattle.gv_expr.specs.Dep.{deps};
 ghost use Rattle.gv_expr.specs.DepView.{dep_of};
 ghost use Rattle.gv_expr.specs.Mentions.{dep_mentions, req_mentions, wanted_atoms};
 ghost use Rattle.gv_expr.specs.Required.{reqs};
+ghost use Rattle.gv_visible.specs.PkgIndex.{IsNamedAt};
 ghost use Rattle.gv_lower.specs.Sites.{known_of, matches_at, place_site, site_of};
 
 use crate::known::{KnownFlag, known_flags, known_items};
@@ -15,7 +16,7 @@ use crate::mentions::Mentions;
 use gv_atom::{Atom, Block, UseItem};
 use gv_base::NoMemory;
 use gv_expr::{DepExpr, DepTree, UseExpr};
-use gv_facts::{Pkg, Pkgs, matches_pkg};
+use gv_facts::{Pkg, Pkgs, matches_named};
 use gv_usestate::RuledFlags;
 use gv_visible::PkgIndex;
 use std::alloc::Global;
@@ -204,12 +205,13 @@ impl<'a> ClassSites<'a> {
     }
 }
 
-// Whether the atom matches the package at this place.
+// Whether the atom matches the package at this place, which has its category and name.
 fn matches_at(atom: &Atom, pkgs: &[Pkg], place: u32) -> bool
+    requires { IsNamedAt atom.now.category atom.now.name pkgs.now place }
     ensures { result ≡ matches_at atom.now pkgs.now place }
 {
     match pkgs.get(place as usize) {
-        Some(pkg) => matches_pkg(atom, pkg),
+        Some(pkg) => matches_named(atom, pkg),
         None => false,
     }
 }
@@ -247,7 +249,7 @@ fn site_of<'a>(
     let pkgs = index.pkgs().items();
     let items = atom.items.items();
     let mut places = Vec::new(alloc);
-    for place in index.at(atom.category.bytes(), atom.name.bytes()) {
+    for place in index.named(atom) {
         if matches_at(atom, pkgs, *place) {
             places.push(place_site(alloc, ruled, pkgs, items, *place)?)?;
         }
