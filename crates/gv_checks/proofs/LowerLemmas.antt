@@ -13,7 +13,7 @@ use Rattle.gv_facts.specs.declared.kinds.Class.{Class}
 use Rattle.gv_facts.specs.declared.kinds.Class.TheVariants.{Required}
 use Rattle.gv_facts.specs.declared.pkg.Pkg.{Pkg}
 use Rattle.gv_lower.specs.Around.{parent_of}
-use Rattle.gv_lower.specs.Lowered.{IsQuery, Lowered, LoweredAllowed, LoweredFailing}
+use Rattle.gv_lower.specs.Lowering.{IsQuery, Lowered, LoweredAllowed, LoweredFailing}
 use Rattle.gv_lower.specs.declared.query.LowerFault.{LowerFault}
 use Rattle.gv_lower.specs.declared.query.Query.{Query}
 use Rattle.gv_visible.specs.Candidates.{Candidates, pkgs_of}

@@ -13,7 +13,7 @@ use Rattle.gv_facts.specs.declared.kinds.Class.{Class}
 use Rattle.gv_facts.specs.declared.pkg.Pkg.{Pkg}
 use Rattle.gv_logic.specs.Bytes.{circuit_bytes}
 use Rattle.gv_lower.specs.Keys.{HaveSameAllowed, HaveSameFailing, query_key, required_key}
-use Rattle.gv_lower.specs.Lowered.{IsQuery}
+use Rattle.gv_lower.specs.Lowering.{IsQuery}
 use Rattle.gv_lower.specs.declared.query.Query as lowered
 use Rattle.gv_checks.specs.Asked.{asked_flags, asked_gates, asked_items, asked_weight}
 use Rattle.gv_checks.specs.Alike.{first_at}

@@ -12,7 +12,7 @@ use Rattle.gv_logic.specs.Circuits.{IsCircuit}
 use Rattle.gv_lower.specs.declared.query.LowerFault.{LowerFault}
 use Rattle.gv_lower.specs.declared.query.LowerFault.TheVariants as lowering
 use Rattle.gv_lower.specs.declared.query.LowerFault.TheVariants.{Flags, Weight}
-use Rattle.gv_lower.specs.Weights.{capped}
+use Rattle.gv_lower.specs.Weigh.{capped}
 use Rattle.gv_query.specs.Asking.{IsAnswered}
 use Rattle.gv_report.specs.declared.options.Options.{Options}
 use Rattle.gv_checks.specs.Certs.{AreCerts, Cert, cert_record, counts_after}

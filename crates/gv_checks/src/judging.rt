@@ -4,7 +4,7 @@ ghost use Rattle.gv_base.specs.Steps.{after};
 ghost use Rattle.gv_base.specs.declared.steps.Kind.TheVariants.{Lower};
 ghost use Rattle.gv_cert.specs.Known.{KnownRecord};
 ghost use Rattle.gv_report.specs.Line.{package_text};
-ghost use Rattle.gv_lower.specs.Lowered.{IsQuery};
+ghost use Rattle.gv_lower.specs.Lowering.{IsQuery};
 ghost use Rattle.gv_visible.specs.Candidates.{test_of};
 ghost use Rattle.gv_checks.specs.Context.{AreAround, case_of};
 ghost use Rattle.gv_checks.specs.Keys.{ArePartsOf};

@@ -2,7 +2,7 @@
 ghost use Rattle.std.specs.Prelude.{◌≡◌, true};
 ghost use Rattle.gv_base.specs.Steps.{after};
 ghost use Rattle.gv_base.specs.declared.steps.Kind.TheVariants.{Lower};
-ghost use Rattle.gv_lower.specs.Lowered.{IsQuery, Lowered};
+ghost use Rattle.gv_lower.specs.Lowering.{IsQuery, Lowered};
 ghost use Rattle.gv_visible.specs.Candidates.{test_of};
 ghost use Rattle.gv_checks.specs.Context.{AreAround, case_of};
 ghost use Rattle.gv_checks.specs.Queries.{flags_of, gates_of, has_query, items_of, query_of, weight_of};

@@ -5,7 +5,7 @@
 ghost use Rattle.std.specs.Prelude.{◌≡◌, true, option_map, IfOk};
 ghost use Rattle.gv_base.specs.Words.{joined};
 ghost use Rattle.gv_cert.specs.Claim.{IsAnswer, claim_bytes};
-ghost use Rattle.gv_lower.specs.Lowered.{IsQuery};
+ghost use Rattle.gv_lower.specs.Lowering.{IsQuery};
 ghost use Rattle.gv_query.specs.Truth.{IsSo};
 ghost use Rattle.gv_visible.specs.Candidates.{test_of};
 ghost use Rattle.gv_checks.specs.Answered.{AnswersOne, CountsOne};

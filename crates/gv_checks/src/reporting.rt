@@ -7,7 +7,7 @@ ghost use Rattle.gv_expr.specs.DepGrammar.{item_text};
 ghost use Rattle.gv_entry.specs.declared.entry.Body.{Body};
 ghost use Rattle.gv_logic.specs.Circuits.{at, values};
 ghost use Rattle.gv_logic.specs.Literals.{lit_true};
-ghost use Rattle.gv_lower.specs.Lowered.{IsQuery};
+ghost use Rattle.gv_lower.specs.Lowering.{IsQuery};
 ghost use Rattle.gv_checks.specs.Context.{case_of};
 ghost use Rattle.gv_checks.specs.Queries.{class_of, context_of, flags_of, gates_of, has_query, items_of, least_of, query_of, required_of};
 ghost use Rattle.gv_checks.specs.RepoReports.{failing_text, nonsolvable, query_report, subject_of, unsatisfiable, witness_of, witness_words};

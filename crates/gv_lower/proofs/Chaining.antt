@@ -10,7 +10,7 @@ use Rattle.std.specs.Str.{bytes_eq}
 use Rattle.gv_atom.specs.declared.items.UseItem.{UseItem}
 use Rattle.gv_lower.specs.AtomGates.{naming}
 use Rattle.std.specs.Prelude.{nat_eq}
-use Rattle.gv_lower.specs.Chained.{HasFlag, later_of, next_naming}
+use Rattle.gv_lower.specs.Chains.{HasFlag, later_of, next_naming}
 
 -- the place that is found, j items on
 pub record Found (n : ℕ) (flag : List ℕ) (items : List UseItem) (p : ℕ) : Type 0 where

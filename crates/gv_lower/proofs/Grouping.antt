@@ -13,7 +13,7 @@ use Rattle.gv_base.specs.Order.{has_text}
 use Rattle.gv_atom.specs.declared.items.UseItem.{UseItem}
 use Rattle.gv_lower.specs.AtomGates.{asked_by, first_named, naming}
 use Rattle.gv_lower.specs.Asks.{FlagAsks, ask_from, ask_of, asks_of, item_side}
-use Rattle.gv_lower.specs.Chained.{HasFlag, next_naming}
+use Rattle.gv_lower.specs.Chains.{HasFlag, next_naming}
 use Rattle.gv_lower.specs.TreeGates.{Base}
 use Rattle.gv_lower.specs.declared.asks.Side.{Side}
 use Rattle.gv_lower.proofs.Chaining.{found_from, from_first, none_from}

@@ -13,7 +13,7 @@ use Rattle.gv_entry.specs.Allowed.{Parent}
 use Rattle.gv_facts.specs.Places.{is_pkg_of}
 use Rattle.gv_facts.specs.Visible.{matches_pkg, visible}
 use Rattle.gv_facts.specs.declared.pkg.Pkg.{Pkg}
-use Rattle.gv_lower.specs.Weights.{capped, class_weight, packages_weight}
+use Rattle.gv_lower.specs.Weigh.{capped, class_weight, packages_weight}
 use Rattle.gv_lower.specs.declared.weigh.Counted.TheVariants.{Every, Named, Shown}
 
 module _ {X : Type 0} (k : ℕ) (some more : X → Bool) (within : (x : X) → some x ≡ true → more x ≡ true) where

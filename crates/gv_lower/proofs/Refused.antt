@@ -1,7 +1,7 @@
 -- What is refused for its flags or its weight.
 use Rattle.std.proofs.Common.{◌≡◌, ℕ, ◌≤◌, List, length, ap}
 use Rattle.std.specs.Prelude.{Err, Some, unwrap_or}
-use Rattle.gv_lower.specs.Lowered.{LightWeight, Lowered}
+use Rattle.gv_lower.specs.Lowering.{LightWeight, Lowered}
 use Rattle.gv_lower.specs.declared.query.LowerFault.{LowerFault}
 use Rattle.gv_lower.specs.declared.query.LowerFault.TheVariants.{Flags, Weight, NoMemory}
 use Rattle.gv_lower.specs.declared.query.Query.{Query}

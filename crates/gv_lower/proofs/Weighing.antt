@@ -29,7 +29,7 @@ use Rattle.gv_facts.specs.Visible.{matches_pkg, visible}
 use Rattle.gv_visible.specs.VisiblePkgs.{shows}
 use Rattle.gv_visible.specs.Candidates.{Candidates, level_of, pkgs_of, profile_of}
 use Rattle.gv_lower.specs.Around.{parent_of}
-use Rattle.gv_lower.specs.Weights.{capped, class_weight, packages_weight}
+use Rattle.gv_lower.specs.Weigh.{capped, class_weight, packages_weight}
 use Rattle.gv_lower.specs.declared.weigh.Counted.{Counted}
 use Rattle.gv_lower.specs.declared.weigh.Counted.TheVariants.{Shown}
 

@@ -6,12 +6,12 @@ pub mod QueryGates
 pub mod Laws
 pub mod Drawn
 pub mod Asks
-pub mod Chained
+pub mod Chains
 pub mod Around
 pub mod Inputs
-pub mod Lowered
-pub mod Weights
-pub mod ParentFlags
+pub mod Lowering
+pub mod Weigh
+pub mod Parent
 pub mod Keys
 pub mod KeysAround
 pub mod Mentions

@@ -3,9 +3,9 @@ ghost use Rattle.std.specs.Prelude.{◌≡◌, ◌++◌, [], ◌∷◌, IfOk, On
 ghost use Rattle.gv_facts.specs.States.{state};
 ghost use Rattle.gv_lower.specs.AtomGates.{asked_by, flag_plan, item_missing, item_off, item_on, naming, none_of, not_both};
 ghost use Rattle.gv_lower.specs.Asks.{ask_from, ask_plan, asked_in, asks_of, asks_plan, item_side};
-ghost use Rattle.gv_lower.specs.Chained.{HasFlag};
+ghost use Rattle.gv_lower.specs.Chains.{HasFlag};
 ghost use Rattle.gv_lower.specs.Drawn.{Drew, DrewEach};
-ghost use Rattle.gv_lower.specs.ParentFlags.{base_at};
+ghost use Rattle.gv_lower.specs.Parent.{base_at};
 
 use crate::chains::Chains;
 use crate::groups::gate_over;

@@ -9,7 +9,7 @@ ghost use Rattle.gv_lower.specs.Around.{parent_of, wanted_plan};
 ghost use Rattle.gv_lower.specs.Asks.{asks_plan};
 ghost use Rattle.gv_lower.specs.AtomGates.{atom_plan};
 ghost use Rattle.gv_lower.specs.Drawn.{Drew, DrewEach, DrewIf};
-ghost use Rattle.gv_lower.specs.ParentFlags.{base_at};
+ghost use Rattle.gv_lower.specs.Parent.{base_at};
 ghost use Rattle.gv_visible.specs.VisiblePkgs.{shown_at, shows};
 ghost use Rattle.gv_visible.specs.StoredTest.{AnswersVisible};
 ghost use Rattle.gv_visible.specs.Candidates.{level_of, pkgs_of, profile_of, test_of};

@@ -5,7 +5,7 @@
 ghost use Rattle.std.specs.Prelude.{◌≡◌, ◌+◌, ◌<◌, ℕ, List, length, drop, not, take, IfOk};
 ghost use Rattle.std.specs.List.{list_any};
 ghost use Rattle.std.specs.Str.{bytes_eq};
-ghost use Rattle.gv_lower.specs.Chained.{HasFlag, next_naming};
+ghost use Rattle.gv_lower.specs.Chains.{HasFlag, next_naming};
 
 use gv_atom::UseItem;
 use gv_base::{NoMemory, Text, byte_order_law};
@@ -25,7 +25,7 @@ pub(crate) struct Chains<'a> {
 impl<'a> Model for Chains<'a> {
     ghost use Rattle.std.specs.Prelude.{List};
     ghost use Rattle.gv_atom.specs.declared.items.UseItem.{UseItem};
-    ghost use Rattle.gv_lower.specs.Chained.{AreChains};
+    ghost use Rattle.gv_lower.specs.Chains.{AreChains};
 
     ghost Value = { List UseItem };
 

@@ -7,7 +7,7 @@ ghost use Rattle.gv_lower.specs.Around.{parent_of};
 ghost use Rattle.gv_lower.specs.AtomGates.{atom_plan};
 ghost use Rattle.gv_lower.specs.Drawn.{Drew, DrewEach};
 ghost use Rattle.gv_lower.specs.Groups.{all_of};
-ghost use Rattle.gv_lower.specs.ParentFlags.{base_at};
+ghost use Rattle.gv_lower.specs.Parent.{base_at};
 ghost use Rattle.gv_lower.specs.Plans.{built_on};
 ghost use Rattle.gv_lower.specs.TreeGates.{dep_plan, dep_plans, dep_unmet, if_met};
 ghost use Rattle.gv_visible.specs.StoredTest.{AnswersVisible};

@@ -7,7 +7,7 @@ ghost use Rattle.gv_expr.specs.Dep.{Dep};
 ghost use Rattle.gv_expr.specs.Required.{Req};
 ghost use Rattle.gv_facts.specs.declared.pkg.Pkg.{Pkg};
 ghost use Rattle.gv_lower.specs.Around.{parent_of};
-ghost use Rattle.gv_lower.specs.Lowered.{LoweredAllowed, LoweredFailing};
+ghost use Rattle.gv_lower.specs.Lowering.{LoweredAllowed, LoweredFailing};
 ghost use Rattle.gv_visible.specs.StoredTest.{AnswersVisible};
 ghost use Rattle.gv_visible.specs.Candidates.{level_of, pkgs_of, profile_of, test_of};
 

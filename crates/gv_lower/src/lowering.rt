@@ -6,7 +6,7 @@ ghost use Rattle.gv_entry.specs.Holds.{empty_holds};
 ghost use Rattle.gv_entry.specs.Weight.{weight};
 ghost use Rattle.gv_logic.specs.Circuits.{IsCircuit};
 ghost use Rattle.gv_lower.specs.Around.{alone, parent_of};
-ghost use Rattle.gv_lower.specs.Lowered.{IsQuery, Lowered, LoweredAllowed, LoweredFailing};
+ghost use Rattle.gv_lower.specs.Lowering.{IsQuery, Lowered, LoweredAllowed, LoweredFailing};
 ghost use Rattle.gv_entry.specs.Queries.{class_flags, required_flags};
 ghost use Rattle.gv_lower.specs.QueryGates.{allowed_gates, failing_gates, failing_items};
 ghost use Rattle.gv_visible.specs.StoredTest.{AnswersVisible};

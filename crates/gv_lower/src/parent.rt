@@ -1,7 +1,7 @@
 //! The literals of the parent's flags: a flag of the query is an input, any other is on where it is forced.
 ghost use Rattle.std.specs.Prelude.{◌≡◌, ℕ, ◌+◌, ◌*◌, ◌≤◌, length, unwrap_or};
 ghost use Rattle.gv_lower.specs.Inputs.{AreInputs};
-ghost use Rattle.gv_lower.specs.ParentFlags.{base_at};
+ghost use Rattle.gv_lower.specs.Parent.{base_at};
 ghost use Rattle.gv_lower.specs.QueryGates.{input_or};
 ghost use Rattle.gv_lower.specs.TreeGates.{signed};
 

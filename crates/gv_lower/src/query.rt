@@ -1,8 +1,8 @@
 //! Queries.
 ghost use Rattle.std.specs.Prelude.{◌≡◌, ◌<◌, ◌≤◌, length};
 ghost use Rattle.gv_base.specs.Order.{IsAscending};
-ghost use Rattle.gv_lower.specs.Lowered.{FewFlags};
-ghost use Rattle.gv_lower.specs.Weights.{capped};
+ghost use Rattle.gv_lower.specs.Lowering.{FewFlags};
+ghost use Rattle.gv_lower.specs.Weigh.{capped};
 
 use crate::parent::Inputs;
 use gv_base::{NoMemory, Texts};

@@ -3,7 +3,7 @@ use Rattle.std.specs.List.{list_any}
 use Rattle.std.specs.Str.{bytes_eq}
 use Rattle.gv_lower.specs.AtomGates.{asked_by, naming}
 use Rattle.gv_lower.specs.Asks.{ask_from}
-use Rattle.gv_lower.specs.ParentFlags.{base_at}
+use Rattle.gv_lower.specs.Parent.{base_at}
 use Rattle.gv_lower.proofs.Grouping.{asks_known, asks_new, was_named, was_not}
 use Rattle.gv_lower.proofs.asks.asks_of.Goals as goal
 

@@ -1,4 +1,4 @@
-use Rattle.gv_lower.specs.ParentFlags.{base_at}
+use Rattle.gv_lower.specs.Parent.{base_at}
 use Rattle.gv_lower.proofs.Grouping.{AsksOn}
 use Rattle.gv_lower.proofs.asks.asks_of.Given as goal
 

@@ -1,6 +1,6 @@
 use Rattle.std.proofs.Common.{◌≡◌, ◌+◌, ◌<◌, get_or, drop, sym, subst, ap, ◌∙◌, Some}
-use Rattle.gv_lower.specs.Chained.{next_naming}
-use Rattle.gv_lower.specs.ParentFlags.{base_at}
+use Rattle.gv_lower.specs.Chains.{next_naming}
+use Rattle.gv_lower.specs.Parent.{base_at}
 use Rattle.gv_lower.proofs.Grouping.{WalksOn, left_at, next_left, walks_next}
 use Rattle.gv_lower.proofs.asks.side_of.Goals as goal
 

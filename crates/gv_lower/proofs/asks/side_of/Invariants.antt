@@ -1,4 +1,4 @@
-use Rattle.gv_lower.specs.ParentFlags.{base_at}
+use Rattle.gv_lower.specs.Parent.{base_at}
 use Rattle.gv_lower.proofs.Grouping.{WalksOn, left_at}
 use Rattle.gv_lower.proofs.asks.side_of.Given as goal
 

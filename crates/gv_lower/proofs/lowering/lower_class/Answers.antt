@@ -8,7 +8,7 @@ use Rattle.gv_facts.specs.States.{state}
 use Rattle.gv_entry.specs.Allowed.{is_free}
 use Rattle.gv_entry.specs.Weight.{weight}
 use Rattle.gv_lower.specs.Around.{parent_of}
-use Rattle.gv_lower.specs.Lowered.{IsQuery, Lowered}
+use Rattle.gv_lower.specs.Lowering.{IsQuery, Lowered}
 use Rattle.gv_lower.specs.QueryGates.{failing_gates, failing_items}
 use Rattle.gv_visible.specs.Candidates.{profile_of}
 use Rattle.gv_lower.proofs.lowering.lower_class.Goals as goal

@@ -1,6 +1,6 @@
 use Rattle.gv_entry.specs.Weight.{weight}
 use Rattle.gv_lower.specs.Around.{parent_of}
-use Rattle.gv_lower.specs.Lowered.{IsQuery}
+use Rattle.gv_lower.specs.Lowering.{IsQuery}
 use Rattle.gv_lower.specs.QueryGates.{failing_gates, failing_items}
 use Rattle.gv_lower.proofs.Finishing.{failing_circuit}
 use Rattle.gv_lower.proofs.Refused.{light_refused}

@@ -1,7 +1,7 @@
 use Rattle.std.proofs.Common.{[], subst, ◌∙◌}
 use Rattle.gv_entry.specs.Weight.{weight}
 use Rattle.gv_lower.specs.Around.{alone}
-use Rattle.gv_lower.specs.Lowered.{IsQuery, Lowered}
+use Rattle.gv_lower.specs.Lowering.{IsQuery, Lowered}
 use Rattle.gv_lower.specs.QueryGates.{allowed_gates}
 use Rattle.gv_lower.proofs.lowering.lower_required.Goals as goal
 

@@ -1,7 +1,7 @@
 use Rattle.std.proofs.Common.{[], ◌∷◌, ◌++◌, ap, ◌∙◌}
 use Rattle.gv_expr.specs.Required.{reqs}
 use Rattle.gv_logic.specs.Literals.{opposite}
-use Rattle.gv_lower.specs.ParentFlags.{base_at}
+use Rattle.gv_lower.specs.Parent.{base_at}
 use Rattle.gv_lower.specs.TreeGates.{req_unmet}
 use Rattle.gv_lower.proofs.Unmet.{req_unmet_next}
 use Rattle.gv_lower.proofs.required.unmet.Goals as goal

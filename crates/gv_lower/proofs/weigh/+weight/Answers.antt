@@ -3,7 +3,7 @@ use Rattle.gv_expr.specs.Dep as dep
 use Rattle.gv_expr.specs.Dep.{deps}
 use Rattle.gv_expr.specs.DepView.{dep_of}
 use Rattle.gv_lower.specs.Around.{parent_of}
-use Rattle.gv_lower.specs.Weights.{capped, class_weight}
+use Rattle.gv_lower.specs.Weigh.{capped, class_weight}
 use Rattle.gv_lower.proofs.Weighing.{all_weight, any_weight, dep_next, leaf_weight, sums_next, when_weight}
 use Rattle.gv_lower.proofs.weigh.+weight.Goals as goal
 

@@ -2,7 +2,7 @@ use Rattle.std.proofs.Common.{drop}
 use Rattle.gv_expr.specs.Dep.{deps}
 use Rattle.gv_expr.specs.DepView.{view_of}
 use Rattle.gv_lower.specs.Around.{parent_of}
-use Rattle.gv_lower.specs.Weights.{class_weight}
+use Rattle.gv_lower.specs.Weigh.{class_weight}
 use Rattle.gv_lower.proofs.Weighing.{SumsOn}
 use Rattle.gv_lower.proofs.weigh.+weight.Given as goal
 

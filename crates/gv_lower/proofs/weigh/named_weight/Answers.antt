@@ -1,6 +1,6 @@
 use Rattle.std.proofs.Common.{◌+◌, length, refl, sym, ap, ◌∙◌, arith}
 use Rattle.std.proofs.Math.Nat.{min-eq_left}
-use Rattle.gv_lower.specs.Weights.{capped}
+use Rattle.gv_lower.specs.Weigh.{capped}
 use Rattle.gv_lower.proofs.Naming.{named_times}
 use Rattle.gv_visible.specs.Candidates.{pkgs_of}
 use Rattle.gv_lower.proofs.weigh.named_weight.Goals as goal

@@ -2,7 +2,7 @@ use Rattle.std.proofs.Common.{◌≡◌, ◌+◌, length, filter, drop, arith, r
 use Rattle.std.specs.Prelude.{sum_by}
 use Rattle.std.proofs.lemmas.List.Sums.{sum_by-cons}
 use Rattle.gv_facts.specs.declared.pkg.Pkg.{Pkg}
-use Rattle.gv_lower.specs.Weights.{capped}
+use Rattle.gv_lower.specs.Weigh.{capped}
 use Rattle.gv_lower.proofs.Walk.{next_found, nothing_left}
 use Rattle.gv_lower.proofs.Weighing.{SumsOn, sums_last, sums_next}
 use Rattle.gv_visible.specs.VisiblePkgs.{shows}

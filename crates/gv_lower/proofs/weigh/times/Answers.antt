@@ -1,5 +1,5 @@
 use Rattle.std.proofs.Common.{◌*◌, ap, ◌∙◌}
-use Rattle.gv_lower.specs.Weights.{capped}
+use Rattle.gv_lower.specs.Weigh.{capped}
 use Rattle.gv_lower.proofs.Products.{product}
 use Rattle.gv_lower.proofs.weigh.times.Goals as goal
 

@@ -2,7 +2,7 @@ use Rattle.std.proofs.Common.{◌≡◌, not, take, sym, subst, ap, ◌∙◌, S
 use Rattle.std.specs.Prelude.{nat_eq}
 use Rattle.std.specs.List.{list_any}
 use Rattle.std.specs.Str.{bytes_eq}
-use Rattle.gv_lower.specs.Chained.{HasFlag, next_naming}
+use Rattle.gv_lower.specs.Chains.{HasFlag, next_naming}
 use Rattle.gv_lower.proofs.Chaining.{is_first_none, is_first_some}
 use Rattle.gv_lower.proofs.chains.Chains.is_first.Goals as goal
 

@@ -1,5 +1,5 @@
 use Rattle.std.proofs.Common.{◌+◌, ◌-◌, ◌<◌, length, get_or, drop, arith, sym, subst, ap, ◌∙◌}
-use Rattle.gv_lower.specs.Chained.{HasFlag, next_naming}
+use Rattle.gv_lower.specs.Chains.{HasFlag, next_naming}
 use Rattle.gv_lower.proofs.Chaining.{later_at, length_later}
 use Rattle.gv_lower.proofs.chains.Chains.later.Goals as goal
 

@@ -1,5 +1,5 @@
 use Rattle.std.proofs.Common.{◌≡◌, ◌≤◌, drop, length}
-use Rattle.gv_lower.specs.Chained.{HasFirst, later_of}
+use Rattle.gv_lower.specs.Chains.{HasFirst, later_of}
 use Rattle.gv_lower.proofs.chains.Chains.of.Given as goal
 
 abbrev pub invariant-loop-at : goal.invariant-loop-at

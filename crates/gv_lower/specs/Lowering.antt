@@ -7,7 +7,7 @@ use Rattle.gv_entry.specs.Weight.{weight}
 use Rattle.gv_entry.specs.Queries.{class_flags, required_flags}
 use Rattle.gv_lower.specs.QueryGates.{allowed_gates, failing_gates, failing_items}
 use Rattle.gv_logic.specs.Circuits.{Circuit}
-use Rattle.gv_lower.specs.Weights.{capped}
+use Rattle.gv_lower.specs.Weigh.{capped}
 use Rattle.gv_lower.specs.declared.query.LowerFault.{LowerFault}
 use Rattle.gv_lower.specs.declared.query.LowerFault.TheVariants.{Flags, Weight, NoMemory}
 use Rattle.gv_lower.specs.declared.query.Query.{Query}
