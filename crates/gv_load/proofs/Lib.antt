@@ -8,7 +8,6 @@ pub mod JudgeLemmas
 pub mod Listings
 pub mod LoadLemmas
 pub mod MemberLemmas
-pub mod Needs
 pub mod OnceLaw
 pub mod OncePaths
 pub mod Onces

@@ -1,6 +1,6 @@
 -- A whole load, by its parts.
-use Rattle.std.proofs.Common.{◌≡◌, ℕ, List, ◌++◌, refl, sym, ap, ◌∙◌}
-use Rattle.std.specs.Prelude.{Option, Some, None, Result, Ok, Err, IfSome}
+use Rattle.std.proofs.Common.{◌≡◌, ◌≤◌, ℕ, List, ◌++◌, refl, sym, ap, subst, ◌∙◌, arith}
+use Rattle.std.specs.Prelude.{Option, Some, None, Result, Ok, Err, IfErr, IfOk, IfSome, OnOk}
 use Rattle.gv_base.specs.FileMap.{FileMap}
 use Rattle.gv_load.specs.declared.faults.LoadFault.{LoadFault}
 use Rattle.gv_load.specs.declared.faults.LoadFault.TheVariants.{Tree, NotARepository, Limit, NoMemory}
@@ -8,7 +8,7 @@ use Rattle.gv_load.specs.declared.freshness.PfKept.{PfKept}
 use Rattle.gv_load.specs.declared.lists.Lists.{Lists}
 use Rattle.gv_load.specs.declared.loading.Repo.{Repo}
 use Rattle.gv_load.specs.declared.line_profiles.Profiled.{Profiled}
-use Rattle.gv_load.specs.Causes.{Cause, Went, IsTold, look_in}
+use Rattle.gv_load.specs.Causes.{Cause, HasRead, Reads, View, IsTold, look_in}
 use Rattle.gv_load.specs.Freshness.{all_kept}
 use Rattle.gv_load.specs.Reader.{Seen, nothing}
 use Rattle.gv_load.specs.Loading.{LoadCause, loading}
@@ -18,30 +18,18 @@ use Rattle.gv_load.specs.Order.{categories, desc_lines, list_steps, load_steps, 
 use Rattle.gv_load.specs.PartsRead.{lists_of, profiled_of, repo_with}
 use Rattle.gv_load.specs.Reading.{Step, passed}
 use Rattle.gv_load.specs.Repository.{repository}
-use Rattle.gv_load.proofs.DirLemmas.{same_went, same_refused}
-use Rattle.gv_load.proofs.Passing.{front_cause}
 
 -- ---- the steps of the whole, where the lists are those of the tree
 abbrev pub steps_by : Look → Lists → List Step
 steps_by look lists = list_steps look ++ (profiles_steps look lists.lines ++ packages_steps look lists.categories)
 
-steps_are : (look : Look) (lists : Lists) → lists ≡ lists_of look → load_steps look ≡ steps_by look lists
+pub steps_are : (look : Look) (lists : Lists) → lists ≡ lists_of look → load_steps look ≡ steps_by look lists
 unfolding load_steps
 steps_are look lists is = sym (ap (steps_by look) is)
 
-pub all_went : (told : Option FileMap) (before now : ℕ) (old new : Seen) (lists : Lists) → (IsTold told → lists ≡ lists_of (look_in told)) →
-    Went told before now (steps_by (look_in told) lists) old new → Went told before now (load_steps (look_in told)) old new
-all_went told before now old new lists are went = same_went told before now old new (steps_by (look_in told) lists) (load_steps (look_in told)) (λ t. steps_are (look_in told) lists (are t)) went
-
-pub all_refused : (told : Option FileMap) (before now : ℕ) (old : Seen) (lists : Lists) (fault : LoadFault) → (IsTold told → lists ≡ lists_of (look_in told)) →
-    Cause told before now (passed (look_in told) old (steps_by (look_in told) lists)) fault → Cause told before now (passed (look_in told) old (load_steps (look_in told))) fault
-all_refused told before now old lists fault are cause = same_refused told before now old (steps_by (look_in told) lists) (load_steps (look_in told)) fault (λ t. steps_are (look_in told) lists (are t)) cause
-
-pub lists_refused : (told : Option FileMap) (before now : ℕ) (old : Seen) (fault : LoadFault) → Cause told before now (passed (look_in told) old (list_steps (look_in told))) fault →
-    Cause told before now (passed (look_in told) old (load_steps (look_in told))) fault
+pub first_steps : (look : Look) → load_steps look ≡ list_steps look ++ (profiles_steps look (desc_lines look) ++ packages_steps look (categories look))
 unfolding load_steps
-lists_refused told before now old fault cause =
-    front_cause told before now old (list_steps (look_in told)) (profiles_steps (look_in told) (desc_lines (look_in told)) ++ packages_steps (look_in told) (categories (look_in told))) fault cause
+first_steps look = refl
 
 -- ---- the repository
 whole : (look : Look) → repo_with (lists_of look) (profiled_of look (lists_of look).masks (lists_of look).lines) (all_kept look (lists_of look).categories) ≡ repository look
@@ -63,13 +51,13 @@ refused : (look : Look) (fault : LoadFault) → passed look nothing (load_steps 
 unfolding loading
 refused look fault is = rw is refl
 
-pub load_is : (told : Option FileMap) (before now : ℕ) (new : Seen) (repo : Repo) → Went told before now (load_steps (look_in told)) nothing new → (IsTold told → repo ≡ repository (look_in told)) →
+as_told : (told : Option FileMap) (new : Seen) (repo : Repo) → (IsTold told → passed (look_in told) nothing (load_steps (look_in told)) ≡ Ok new) → (IsTold told → repo ≡ repository (look_in told)) →
     IfSome told (λ files. loading (look_of files) ≡ Ok repo)
 unfolding look_in
-load_is None before now new repo went is = tt
-load_is (Some files) before now new repo went is = loaded (look_of files) new repo (went.passed refl) (is refl)
+as_told None new repo went is = tt
+as_told (Some files) new repo went is = loaded (look_of files) new repo (went refl) (is refl)
 
-pub load_cause : (told : Option FileMap) (before now : ℕ) (fault : LoadFault) → Cause told before now (passed (look_in told) nothing (load_steps (look_in told))) fault → LoadCause told before now fault
+load_cause : (told : Option FileMap) (before now : ℕ) (fault : LoadFault) → Cause told before now (passed (look_in told) nothing (load_steps (look_in told))) fault → LoadCause told before now fault
 unfolding look_in
 load_cause told before now NoMemory cause = tt
 load_cause told before now (Tree path) cause = cause
@@ -77,3 +65,35 @@ load_cause None before now (NotARepository path) cause = (cause.0, tt)
 load_cause (Some files) before now (NotARepository path) cause = (cause.0, refused (look_of files) (NotARepository path) (cause.1 refl))
 load_cause None before now (Limit place number) cause = (cause.0, tt)
 load_cause (Some files) before now (Limit place number) cause = (cause.0, refused (look_of files) (Limit place number) (cause.1 refl))
+
+-- what a load tells, by what its reading tells
+pub record Loads (before now : View) (result : Result Repo LoadFault) : Type 0 where
+  pub repo : IfOk result (λ repo. IfSome before.told (λ files. loading (look_of files) ≡ Ok repo))
+  pub cause : IfErr result (LoadCause before.told before.faults now.faults)
+  pub told : now.told ≡ before.told
+  pub around : now.around ≡ before.around
+  pub later : before.faults ≤ now.faults
+  pub calm : OnOk result (now.faults ≡ before.faults)
+
+pub loads : {T : Type 0} (see : T → View) (before now : T) (start new : Seen) (result : Result Repo LoadFault) → start ≡ nothing →
+    Reads see before now (λ look. load_steps look) (λ look repo. repo ≡ repository look) start new result → Loads (see before) (see now) result
+loads see before now start new (Ok repo) none one =
+    let here = subst (λ (s : Seen). HasRead (see before) (see now) (λ look. load_steps look) (λ look. repo ≡ repository look) s new) none one in
+    let calm : (see now).faults ≡ (see before).faults = ap (λ (v : View). v.faults) one.same in
+    record {
+      repo = as_told (see before).told new repo here.passed here.value;
+      cause = tt;
+      told = ap (λ (v : View). v.told) one.same;
+      around = ap (λ (v : View). v.around) one.same;
+      later = omega (arith, calm);
+      calm = calm;
+    }
+loads see before now start new (Err fault) none ended = record {
+  repo = tt;
+  cause = load_cause (see before).told (see before).faults (see now).faults fault
+      (subst (λ (s : Seen). Cause (see before).told (see before).faults (see now).faults (passed (look_in (see before).told) s (load_steps (look_in (see before).told))) fault) none ended.cause);
+  told = ended.told;
+  around = ended.around;
+  later = ended.later;
+  calm = tt;
+}

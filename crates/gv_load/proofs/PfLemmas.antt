@@ -1,9 +1,8 @@
 -- PFs of a category, where what is listed is kept as a set.
-use Rattle.std.proofs.Common.{◌≡◌, ℕ, List, [], ◌∷◌, ◌++◌, Bool, true, false, refl, sym, ap, ◌∙◌, append_assoc, map}
-use Rattle.std.specs.Prelude.{Option, None, if◌then◌else◌, ◌&&◌}
+use Rattle.std.proofs.Common.{◌≡◌, ℕ, List, [], ◌∷◌, ◌++◌, Bool, true, false, refl, sym, ap, ◌∙◌, map}
+use Rattle.std.specs.Prelude.{None, if◌then◌else◌, ◌&&◌}
 use Rattle.std.specs.List.{list_all}
 use Rattle.std.specs.Option.{option_map}
-use Rattle.gv_base.specs.FileMap.{FileMap}
 use Rattle.gv_base.specs.Order.{has_text}
 use Rattle.gv_entry.specs.EntryRead.{entry_of}
 use Rattle.gv_load.specs.declared.entries.PfRead.{PfRead}
@@ -11,16 +10,9 @@ use Rattle.gv_load.specs.Categories.{listed, name_of, pf_subject, pfs_of}
 use Rattle.gv_load.specs.Directories.{bytes_at}
 use Rattle.gv_load.specs.Entries.{digest_at, pf_read, reads_of}
 use Rattle.gv_load.specs.Look.{Look}
-use Rattle.gv_load.specs.Causes.{IsTold, look_in}
 use Rattle.gv_load.specs.Order.{pf_steps, pfs_steps}
 use Rattle.gv_load.specs.Paths.{entry_path, ebuild_path}
 use Rattle.gv_load.specs.Reading.{Step, once}
-
--- the values so far and those that are left are all
-pub more_values : {X Y : Type 0} → (one : X → List Y) (all : List X → List Y) (before new end : List Y) (rest behind : List X) (x : X) →
-    ((y : X) (ys : List X) → all (y ∷ ys) ≡ one y ++ all ys) → rest ≡ x ∷ behind → before ++ all rest ≡ end → new ≡ before ++ one x → new ++ all behind ≡ end
-more_values one all before new end rest behind x law next so_far is =
-    ap (λ ys. ys ++ all behind) is ∙ append_assoc before (one x) (all behind) ∙ sym (ap (λ r. before ++ all r) next ∙ ap (λ ys. before ++ ys) (law x behind)) ∙ so_far
 
 pub later : {A : Type 0} → (test : A → Bool) (x : A) (xs : List A) → list_all test (x ∷ xs) ≡ true → list_all test xs ≡ true
 later test x xs = by (test x)
@@ -49,12 +41,10 @@ same_reads look xs ys category [] same = refl
 same_reads look xs ys category (p ∷ ps) same =
     ap (λ b. read_if look b category p ∷ map (pf_read look xs category) ps) (same p) ∙ ap (λ (rs : List PfRead). pf_read look ys category p ∷ rs) (same_reads look xs ys category ps same)
 
-pub steps_are : (told : Option FileMap) (category : List ℕ) (keys pfs : List (List ℕ)) → (IsTold told → (text : List ℕ) → has_text keys text ≡ has_text (listed (look_in told) category) text) → (IsTold told → pfs ≡ pfs_of (look_in told) category) →
-    IsTold told → pfs_steps (listed (look_in told) category) category (pfs_of (look_in told) category) ≡ pfs_steps keys category pfs
-steps_are told category keys pfs same are t =
-    sym (same_steps keys (listed (look_in told) category) category pfs (same t) ∙ ap (pfs_steps (listed (look_in told) category) category) (are t))
+pub steps_are : (look : Look) (category : List ℕ) (keys pfs : List (List ℕ)) → ((text : List ℕ) → has_text keys text ≡ has_text (listed look category) text) → pfs ≡ pfs_of look category →
+    pfs_steps (listed look category) category (pfs_of look category) ≡ pfs_steps keys category pfs
+steps_are look category keys pfs same are = sym (same_steps keys (listed look category) category pfs same ∙ ap (pfs_steps (listed look category) category) are)
 
-pub reads_are : (told : Option FileMap) (category : List ℕ) (keys pfs : List (List ℕ)) → (IsTold told → (text : List ℕ) → has_text keys text ≡ has_text (listed (look_in told) category) text) → (IsTold told → pfs ≡ pfs_of (look_in told) category) →
-    IsTold told → map (pf_read (look_in told) keys category) pfs ≡ reads_of (look_in told) category
-reads_are told category keys pfs same are t =
-    same_reads (look_in told) keys (listed (look_in told) category) category pfs (same t) ∙ ap (map (pf_read (look_in told) (listed (look_in told) category) category)) (are t)
+pub reads_are : (look : Look) (category : List ℕ) (keys pfs : List (List ℕ)) → ((text : List ℕ) → has_text keys text ≡ has_text (listed look category) text) → pfs ≡ pfs_of look category →
+    map (pf_read look keys category) pfs ≡ reads_of look category
+reads_are look category keys pfs same are = same_reads look keys (listed look category) category pfs same ∙ ap (map (pf_read look (listed look category) category)) are

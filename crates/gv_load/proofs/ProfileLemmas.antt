@@ -1,9 +1,8 @@
 -- What the lines come to, by the directories that were read.
 use Rattle.std.proofs.Common.{◌≡◌, ℕ, List, [], ◌∷◌, ◌++◌, Bool, true, None, refl, sym, ap, ◌∙◌}
-use Rattle.std.specs.Prelude.{Option, Ok, Err, filter_map, if◌then◌else◌}
+use Rattle.std.specs.Prelude.{Option, Err, filter_map, if◌then◌else◌}
 use Rattle.std.specs.FinMap.{get}
 use Rattle.std.specs.Str.{bytes_eq}
-use Rattle.gv_base.specs.FileMap.{FileMap}
 use Rattle.gv_base.specs.Order.{has_text}
 use Rattle.gv_facts.specs.declared.profile.Profile.{Profile}
 use Rattle.gv_profile.specs.declared.desc.DescLine.{DescLine}
@@ -17,19 +16,18 @@ use Rattle.gv_load.specs.declared.reaching.Reached.{Reached}
 use Rattle.gv_load.specs.declared.stacks.Folds.{Folds}
 use Rattle.gv_load.specs.Ahead.{KeepsDirs}
 use Rattle.gv_load.specs.Directories.{steps_of, dir_at}
-use Rattle.gv_load.specs.Causes.{Cause, Knows, Went, IsTold, look_in}
+use Rattle.gv_load.specs.Causes.{HasEnded, HasRead, View, look_in}
 use Rattle.gv_load.specs.Closed.{HaveSameStacks}
 use Rattle.gv_load.specs.Reader.{Seen}
 use Rattle.gv_load.specs.Look.{Look}
 use Rattle.gv_load.specs.Notes.{notes_at, notes_in}
 use Rattle.gv_load.specs.Order.{profiles_steps, reached, stack_steps}
-use Rattle.gv_load.specs.Reaching.{Dirs}
-use Rattle.gv_load.specs.PartsRead.{profiled_of}
-use Rattle.gv_load.specs.Reading.{Out, passed}
+use Rattle.gv_load.specs.PartsRead.{HasReached, profiled_of}
+use Rattle.gv_load.specs.Reading.{Out}
 use Rattle.gv_load.specs.Stacks.{error_at, profile_at}
 use Rattle.gv_load.specs.StackLimits.{first_limit, LimitIs}
 use Rattle.gv_load.proofs.JudgeLemmas.{itself, or_right}
-use Rattle.gv_load.proofs.Passing.{passed-append}
+use Rattle.gv_load.proofs.Passing.{no_memory, passed-append}
 use Rattle.gv_load.proofs.StackSteps.{stacks_pass, stacks_refused}
 
 -- ---- the notes of what was read are those of the tree
@@ -55,22 +53,31 @@ profiled_is look r masks lines folds p keeps stacks order profiles errors is =
     (same_notes look r r.order keeps (λ path there. there) ∙ ap (notes_in (dir_at look)) order)
 
 -- ---- the steps
-pub stacks_went : (told : Option FileMap) (before now : ℕ) (old new : Seen) (here : Dirs) (lines : List DescLine) → (IsTold told → HaveSameStacks here (dir_at (look_in told)) lines) → first_limit here lines ≡ None → Knows told new →
-    (IsTold told → passed (look_in told) old (steps_of (look_in told) (reached (look_in told) lines)) ≡ Ok new) → now ≡ before → Went told before now (profiles_steps (look_in told) lines) old new
-stacks_went told before now old new here lines same none knows went calm = record {
-  passed = λ t. passed-append (look_in told) old (steps_of (look_in told) (reached (look_in told) lines)) (stack_steps (dir_at (look_in told)) lines)
-      ∙ rw (went t) (stacks_pass (look_in told) new (dir_at (look_in told)) lines (sym (same t).limit ∙ none));
-  knows = knows;
-  calm = calm;
-}
+module _ {before now : View} {old : Seen} {lines : List DescLine} {r : Reached} where
+  pub stacks_read : {mid : Seen} {P : Look → Type 0} → HasRead before now (λ look. steps_of look (reached look lines)) (λ look. HasReached look lines r) old mid → first_limit (get r.dirs) lines ≡ None →
+      ((look : Look) → HasReached look lines r → P look) → HasRead before now (λ look. profiles_steps look lines) P old mid
+  stacks_read {mid = mid} one none says = record {
+    same = one.same;
+    knows = one.knows;
+    passed = λ t. passed-append (look_in before.told) old (steps_of (look_in before.told) (reached (look_in before.told) lines)) (stack_steps (dir_at (look_in before.told)) lines)
+        ∙ rw (one.passed t) (stacks_pass (look_in before.told) mid (dir_at (look_in before.told)) lines (sym (one.value t).stacks.limit ∙ none));
+    value = λ t. says _ (one.value t);
+  }
 
-pub stacks_cause : (told : Option FileMap) (before now : ℕ) (old mid : Seen) (here : Dirs) (lines : List DescLine) (fault : LoadFault) → (IsTold told → HaveSameStacks here (dir_at (look_in told)) lines) → LimitIs (first_limit here lines) fault →
-    (IsTold told → passed (look_in told) old (steps_of (look_in told) (reached (look_in told) lines)) ≡ Ok mid) → now ≡ before → Cause told before now (passed (look_in told) old (profiles_steps (look_in told) lines)) fault
-stacks_cause told before now old mid here lines NoMemory same limit went calm = tt
-stacks_cause told before now old mid here lines (Tree path) same limit went calm = absurd limit
-stacks_cause told before now old mid here lines (NotARepository path) same limit went calm = absurd limit
-stacks_cause told before now old mid here lines (Limit place number) same limit went calm = (
-  calm,
-  λ t. passed-append (look_in told) old (steps_of (look_in told) (reached (look_in told) lines)) (stack_steps (dir_at (look_in told)) lines)
-      ∙ rw (went t) (stacks_refused (look_in told) mid (dir_at (look_in told)) lines place (sym (same t).limit ∙ limit.0) ∙ ap (λ (n : ℕ). let o : Out = Err (Limit place n) in o) (sym limit.1)),
-)
+  pub stacks_ended : {mid : Seen} (fault : LoadFault) → HasRead before now (λ look. steps_of look (reached look lines)) (λ look. HasReached look lines r) old mid → LimitIs (first_limit (get r.dirs) lines) fault →
+      HasEnded before now (λ look. profiles_steps look lines) old fault
+  stacks_ended NoMemory one limit = no_memory one.same
+  stacks_ended (Tree path) one limit = absurd limit
+  stacks_ended (NotARepository path) one limit = absurd limit
+  stacks_ended {mid = mid} (Limit place number) one limit =
+      let ended = no_memory {before = before} {now = now} {old = old} {steps = λ look. profiles_steps look lines} one.same in
+      record {
+        told = ended.told;
+        around = ended.around;
+        later = ended.later;
+        cause = (
+          ap (λ (v : View). v.faults) one.same,
+          λ t. passed-append (look_in before.told) old (steps_of (look_in before.told) (reached (look_in before.told) lines)) (stack_steps (dir_at (look_in before.told)) lines)
+              ∙ rw (one.passed t) (stacks_refused (look_in before.told) mid (dir_at (look_in before.told)) lines place (sym (one.value t).stacks.limit ∙ limit.0) ∙ ap (λ (n : ℕ). let o : Out = Err (Limit place n) in o) (sym limit.1)),
+        );
+      }

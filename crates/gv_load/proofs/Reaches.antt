@@ -18,7 +18,7 @@ use Rattle.gv_load.specs.declared.reaching.Ahead.{Ahead}
 use Rattle.gv_load.specs.declared.reaching.Reached.{Reached}
 use Rattle.gv_load.specs.Ahead.{reached_after, ahead_of, dirs_with, KeepsDirs}
 use Rattle.gv_load.specs.Directories.{steps_of, dir_at, dir_steps}
-use Rattle.gv_load.specs.Causes.{Cause, Went, IsTold, look_in}
+use Rattle.gv_load.specs.Causes.{Cause, HasRead, View, IsTold, look_in}
 use Rattle.gv_load.specs.Reader.{Seen}
 use Rattle.gv_load.specs.Look.{Look}
 use Rattle.gv_load.specs.Reaching.{Dirs, reach, reach_below, most_depth, paths_of, with_parents, from_line, reached_by}
@@ -141,15 +141,16 @@ steps-append look (x ∷ xs) ys = ap (λ s. dir_steps look x ++ s) (steps-append
 one_dir : (look : Look) (dir : List ℕ) → steps_of look (dir ∷ []) ≡ dir_steps look dir
 one_dir look dir = append-nil (dir_steps look dir)
 
-pub read_more : (told : Option FileMap) (before now : ℕ) (start old new : Seen) (order after : List (List ℕ)) (dir : List ℕ) → after ≡ order ++ dir ∷ [] → Went told before now (dir_steps (look_in told) dir) old new →
-    IsTold told → passed (look_in told) start (steps_of (look_in told) order) ≡ Ok old → passed (look_in told) start (steps_of (look_in told) after) ≡ Ok new
-read_more told before now start old new order after dir is went t so_far =
-    ap (λ ds. passed (look_in told) start (steps_of (look_in told) ds)) is
-    ∙ ap (passed (look_in told) start) (steps-append (look_in told) order (dir ∷ []))
-    ∙ passed-append (look_in told) start (steps_of (look_in told) order) (steps_of (look_in told) (dir ∷ []))
-    ∙ ap (λ (o : Out). and_then o (λ n. passed (look_in told) n (steps_of (look_in told) (dir ∷ [])))) so_far
-    ∙ ap (passed (look_in told) old) (one_dir (look_in told) dir)
-    ∙ went.passed t
+pub read_more : {before now : View} {old new : Seen} {P : Look → Type 0} (start : Seen) (order after : List (List ℕ)) (dir : List ℕ) → after ≡ order ++ dir ∷ [] → HasRead before now (λ look. dir_steps look dir) P old new →
+    IsTold before.told → passed (look_in before.told) start (steps_of (look_in before.told) order) ≡ Ok old → passed (look_in before.told) start (steps_of (look_in before.told) after) ≡ Ok new
+read_more {before = before} {old = old} start order after dir is one t so_far =
+    let look = look_in before.told in
+    ap (λ ds. passed look start (steps_of look ds)) is
+    ∙ ap (passed look start) (steps-append look order (dir ∷ []))
+    ∙ passed-append look start (steps_of look order) (steps_of look (dir ∷ []))
+    ∙ ap (λ (o : Out). and_then o (λ n. passed look n (steps_of look (dir ∷ [])))) so_far
+    ∙ ap (passed look old) (one_dir look dir)
+    ∙ one.passed t
 
 pub refused_there : (told : Option FileMap) (before now : ℕ) (start old : Seen) (order whole : List (List ℕ)) (dir : List ℕ) (fault : LoadFault) → Begins (order ++ dir ∷ []) whole →
     (IsTold told → passed (look_in told) start (steps_of (look_in told) order) ≡ Ok old) → Cause told before now (passed (look_in told) old (dir_steps (look_in told) dir)) fault →

@@ -1,6 +1,6 @@
 -- What is known after a reading.
-use Rattle.std.proofs.Common.{◌≡◌, ℕ, List, true, false, cond, Some, None, length, refl, sym, ap, subst, ◌∙◌}
-use Rattle.std.specs.Prelude.{Option, Err, IfSome, nat_lt}
+use Rattle.std.proofs.Common.{◌≡◌, ℕ, List, [], ◌∷◌, true, false, cond, Some, None, length, refl, sym, ap, subst, ◌∙◌}
+use Rattle.std.specs.Prelude.{◌≤◌, Option, Result, Ok, Err, IfSome, IfOk, IfErr, OnOk, nat_lt}
 use Rattle.std.specs.Option.{is_some}
 use Rattle.std.specs.declared.cmp.Ordering.{Ordering}
 use Rattle.std.specs.declared.cmp.Ordering.TheVariants.{Less, Equal, Greater}
@@ -17,11 +17,13 @@ use Rattle.gv_base.specs.Listing.{is_folder, IsListing}
 use Rattle.gv_base.specs.Order.{byte_cmp, in_order}
 use Rattle.gv_base.specs.declared.tree.Found.{Found}
 use Rattle.gv_base.specs.declared.tree.Found.TheVariants.{File}
+use Rattle.gv_load.specs.declared.faults.LoadFault.{LoadFault}
 use Rattle.gv_load.specs.declared.faults.LoadFault.TheVariants.{Limit}
-use Rattle.gv_load.specs.Causes.{Agrees, Knows, IsTold, look_in}
+use Rattle.gv_load.specs.Causes.{Agrees, Cause, Knows, Reads, View, IsTold, look_in}
 use Rattle.gv_load.specs.Reader.{Seen, nothing}
 use Rattle.gv_load.specs.Look.{Look}
-use Rattle.gv_load.specs.Reading.{with_found, after_new, most_path}
+use Rattle.gv_load.specs.Reading.{list, with_found, after_list, after_new, most_path}
+use Rattle.gv_load.proofs.Passing.{same_cause, same_view}
 
 -- ---- what the tree tells
 pub told_found : (told : Option FileMap) (path : List ℕ) (found : Found) → IfSome told (λ m. found ≡ found_at m path) → IsTold told → found ≡ (look_in told).found path
@@ -89,3 +91,22 @@ known_before told seen path knows there t = by (get seen.known path) refl there
     by : (o : Option Found) → get seen.known path ≡ o → is_some o ≡ true → get seen.known path ≡ Some ((look_in told).found path)
     by None is there = cc
     by (Some found) is there = is ∙ ap Some (knows t path found is)
+
+-- ---- names that were listed
+pub listed : {T : Type 0} (see : T → View) (before now : T) (seen : Seen) (path : List ℕ) (result : Result (List (List ℕ)) LoadFault) → Knows (see before).told seen →
+    IfOk result (λ names. IsTold (see before).told → names ≡ (look_in (see before).told).names path) → OnOk result (after_list seen path ≡ Ok seen) →
+    IfErr result (Cause (see before).told (see before).faults (see now).faults (after_list seen path)) →
+    (see now).told ≡ (see before).told → (see now).around ≡ (see before).around → (see before).faults ≤ (see now).faults → OnOk result ((see now).faults ≡ (see before).faults) →
+    Reads see before now (λ look. list path ∷ []) (λ look names. names ≡ look.names path) seen seen result
+listed see before now seen path (Ok names) knows is passed cause told around later calm = record {
+  same = same_view (see before) (see now) told calm around;
+  knows = knows;
+  passed = λ t. rw passed refl;
+  value = is;
+}
+listed see before now seen path (Err fault) knows is passed cause told around later calm = record {
+  told = told;
+  around = around;
+  later = later;
+  cause = same_cause (see before).told (see before).faults (see now).faults _ _ fault (λ t f at. rw at refl) cause;
+}

@@ -1,5 +1,5 @@
 -- Words of private contracts alone, no rule: what is still ahead while directories are reached.
-use Rattle.std.specs.Prelude.{◌≡◌, ℕ, suc, List, [], ◌∷◌, Option, Some, None, if◌then◌else◌, drop, fold}
+use Rattle.std.specs.Prelude.{◌≡◌, ℕ, suc, List, [], ◌∷◌, ◌++◌, Option, Some, None, if◌then◌else◌, drop, fold}
 use Rattle.std.specs.FinMap.{get, insert}
 use Rattle.gv_base.specs.Order.{has_text}
 use Rattle.gv_profile.specs.Dirs.{DirMap}
@@ -31,3 +31,8 @@ IsIndexed reached = (text : List ℕ) → has_text reached.set.keys text ≡ has
 -- the directories that were reached are kept, and no other
 abbrev pub KeepsDirs : Look → Reached → Type 0
 KeepsDirs look reached = (path : List ℕ) → get reached.dirs path ≡ (if has_text reached.order path then dir_at look path else None)
+
+-- a path was reached: its parents are ahead now, and its files are kept where it is a directory
+pub record HasVisited (dirs : Dirs) (before : Reached) (dir : List ℕ) (old new : List Ahead) (r : Reached) : Type 0 where
+  pub parents : new ≡ old ++ ahead_of dir (dirs dir)
+  pub files : r.dirs ≡ dirs_with before.dirs dir (dirs dir)

@@ -2,22 +2,22 @@
 //!
 //! Costs a listing for the entries, one for the category and one for each package name, and O(n log n) comparisons for n
 //! names.
-ghost use Rattle.std.specs.Prelude.{◌≡◌, ◌≤◌, ◌<◌, ◌∷◌, [], ◌+◌, ◌++◌, true, List, ℕ, take, drop, length, filter, filter_map, flat_map, IfOk, IfErr, OnOk};
+ghost use Rattle.std.specs.Prelude.{◌≡◌, ◌<◌, ◌∷◌, [], ◌+◌, ◌++◌, true, List, ℕ, take, drop, filter, filter_map, flat_map, IfOk, OnOk};
 ghost use Rattle.std.specs.List.{list_all};
-ghost use Rattle.std.specs.Str.{bytes_eq};
 ghost use Rattle.gv_base.specs.Order.{in_order, has_text};
 ghost use Rattle.gv_version.specs.Names.{split_pf, is_package};
-ghost use Rattle.gv_load.specs.Categories.{is_pf, name_of, pf_subject, version_of, listed, folders, ends_as_ebuild, front_of, ebuild_in, ebuilds_in, pfs_of};
-ghost use Rattle.gv_load.specs.Causes.{Cause, Knows, Went, IsTold, look_in, around};
+ghost use Rattle.gv_load.specs.Categories.{is_pf, name_of, pf_subject, version_of, listed, folders, ends_as_ebuild, front_of, ebuild_in, ebuilds_in};
+ghost use Rattle.gv_load.specs.Causes.{Knows, Reads, view};
 ghost use Rattle.gv_load.specs.Order.{folder_lists, listing_steps};
-ghost use Rattle.gv_load.specs.Paths.{cache_dir, ebuild_end};
-ghost use Rattle.gv_load.specs.Reading.{passed, after_list, list};
+ghost use Rattle.gv_load.specs.PartsRead.{HasListed};
+ghost use Rattle.gv_load.specs.Paths.{cache_dir};
+ghost use Rattle.gv_load.specs.Reading.{list};
 ghost use Rattle.gv_profile.specs.Paths.{within};
 
 use crate::LoadFault;
 use crate::paths::cache_dir;
 use crate::reaching::add_key;
-use crate::reader::{Reader, list_names};
+use crate::reader::{Reader, list_at};
 use gv_base::{NoMemory, Text, Texts, Tree};
 use gv_profile::within;
 use gv_report::Subject;
@@ -67,31 +67,13 @@ pub(crate) fn list_category<T: Tree>(
     category: &Text,
 ) -> Result<Listing, LoadFault>
     requires { Knows (T.files tree.old) reader.now }
-    ensures listed { IfOk result (λ l. IsTold (T.files tree.old) → (text : List ℕ) → has_text l.listed.keys text ≡ has_text (listed (look_in (T.files tree.old)) category.now) text) }
-    ensures value { IfOk result (λ l. IsTold (T.files tree.old) → l.pfs ≡ pfs_of (look_in (T.files tree.old)) category.now) }
+    ensures reads { Reads (view T.files T.faults T.entered T.lent) tree.old tree.new (λ look. listing_steps look category.now) (λ look listing. HasListed look category.now listing) reader.now reader.now result }
     ensures pfs { IfOk result (λ l. list_all is_pf l.pfs ≡ true) }
-    ensures went { OnOk result (Went (T.files tree.old) (T.faults tree.old) (T.faults tree.new) (listing_steps (look_in (T.files tree.old)) category.now) reader.now reader.now) }
-    ensures cause { IfErr result (Cause (T.files tree.old) (T.faults tree.old) (T.faults tree.new) (passed (look_in (T.files tree.old)) reader.now (listing_steps (look_in (T.files tree.old)) category.now))) }
-    ensures files { T.files tree.new ≡ T.files tree.old }
-    ensures around { around (T.entered tree.new) (T.lent tree.new) ≡ around (T.entered tree.old) (T.lent tree.old) }
-    ensures later { T.faults tree.old ≤ T.faults tree.new }
 {
-    let entries = match list_entries(alloc, reader, tree, category) {
-        Ok(names) => names,
-        Err(fault) => return Err(fault),
-    };
-    let names = match list_packages(alloc, reader, tree, category) {
-        Ok(names) => names,
-        Err(fault) => return Err(fault),
-    };
-    let ebuilds = match list_folders(alloc, reader, tree, category, &names) {
-        Ok(pfs) => pfs,
-        Err(fault) => return Err(fault),
-    };
-    match with_both(alloc, &entries, &ebuilds) {
-        Ok(listing) => Ok(listing),
-        Err(_) => Err(LoadFault::NoMemory),
-    }
+    let entries = list_entries(alloc, reader, tree, category)?;
+    let names = list_packages(alloc, reader, tree, category)?;
+    let ebuilds = list_folders(alloc, reader, tree, category, &names)?;
+    Ok(with_both(alloc, &entries, &ebuilds)?)
 }
 
 // The place of the hyphen in a PF, None where the name is no PF. Places have 32 bits, and a longer name finds no memory.
@@ -224,45 +206,11 @@ fn list_ebuilds<T: Tree>(
     pfs: &mut Texts,
 ) -> Result<(), LoadFault>
     requires { Knows (T.files tree.old) reader.now }
-    ensures value { OnOk result (IsTold (T.files tree.old) → pfs.new ≡ pfs.old ++ ebuilds_in (look_in (T.files tree.old)) category.now name.now) }
-    ensures went { OnOk result (Went (T.files tree.old) (T.faults tree.old) (T.faults tree.new) (list (within category.now name.now) ∷ []) reader.now reader.now) }
-    ensures cause { IfErr result (Cause (T.files tree.old) (T.faults tree.old) (T.faults tree.new) (passed (look_in (T.files tree.old)) reader.now (list (within category.now name.now) ∷ []))) }
-    ensures files { T.files tree.new ≡ T.files tree.old }
-    ensures around { around (T.entered tree.new) (T.lent tree.new) ≡ around (T.entered tree.old) (T.lent tree.old) }
-    ensures later { T.faults tree.old ≤ T.faults tree.new }
+    ensures { Reads (view T.files T.faults T.entered T.lent) tree.old tree.new (λ look. list (within category.now name.now) ∷ []) (λ look _. pfs.new ≡ pfs.old ++ ebuilds_in look category.now name.now) reader.now reader.now result }
 {
-    let Ok(path) = within(alloc, category, name.bytes()) else {
-        return Err(LoadFault::NoMemory);
-    };
-    let files = match list_at(alloc, reader, tree, &path) {
-        Ok(files) => files,
-        Err(fault) => return Err(fault),
-    };
-    match ebuilds_among(alloc, name.bytes(), &files, pfs) {
-        Ok(()) => Ok(()),
-        Err(_) => Err(LoadFault::NoMemory),
-    }
-}
-
-// The names below a path, in byte order. The reader is as before.
-fn list_at<T: Tree>(
-    alloc: Global,
-    reader: &Reader,
-    tree: &mut T,
-    path: &Text,
-) -> Result<Texts, LoadFault>
-    requires { Knows (T.files tree.old) reader.now }
-    ensures value { IfOk result (λ value. IsTold (T.files tree.old) → value ≡ (look_in (T.files tree.old)).names path.now) }
-    ensures went { OnOk result (Went (T.files tree.old) (T.faults tree.old) (T.faults tree.new) (list path.now ∷ []) reader.now reader.now) }
-    ensures cause { IfErr result (Cause (T.files tree.old) (T.faults tree.old) (T.faults tree.new) (passed (look_in (T.files tree.old)) reader.now (list path.now ∷ []))) }
-    ensures files { T.files tree.new ≡ T.files tree.old }
-    ensures around { around (T.entered tree.new) (T.lent tree.new) ≡ around (T.entered tree.old) (T.lent tree.old) }
-    ensures later { T.faults tree.old ≤ T.faults tree.new }
-{
-    match list_names(alloc, tree, path) {
-        Ok(names) => Ok(names),
-        Err(fault) => Err(fault),
-    }
+    let path = within(alloc, category, name.bytes())?;
+    let files = list_at(alloc, reader, tree, &path)?;
+    Ok(ebuilds_among(alloc, name.bytes(), &files, pfs)?)
 }
 
 // The ebuilds in the folders of these names.
@@ -274,18 +222,11 @@ fn list_folders<T: Tree>(
     names: &Texts,
 ) -> Result<Texts, LoadFault>
     requires { Knows (T.files tree.old) reader.now }
-    ensures value { IfOk result (λ value. IsTold (T.files tree.old) → value ≡ flat_map (ebuilds_in (look_in (T.files tree.old)) category.now) names.now) }
-    ensures went { OnOk result (Went (T.files tree.old) (T.faults tree.old) (T.faults tree.new) (folder_lists category.now names.now) reader.now reader.now) }
-    ensures cause { IfErr result (Cause (T.files tree.old) (T.faults tree.old) (T.faults tree.new) (passed (look_in (T.files tree.old)) reader.now (folder_lists category.now names.now))) }
-    ensures files { T.files tree.new ≡ T.files tree.old }
-    ensures around { around (T.entered tree.new) (T.lent tree.new) ≡ around (T.entered tree.old) (T.lent tree.old) }
-    ensures later { T.faults tree.old ≤ T.faults tree.new }
+    ensures { Reads (view T.files T.faults T.entered T.lent) tree.old tree.new (λ look. folder_lists category.now names.now) (λ look value. value ≡ flat_map (ebuilds_in look category.now) names.now) reader.now reader.now result }
 {
     let mut pfs = Texts::new(alloc);
     for name in names.items() {
-        if let Err(fault) = list_ebuilds(alloc, reader, tree, category, name, &mut pfs) {
-            return Err(fault);
-        }
+        list_ebuilds(alloc, reader, tree, category, name, &mut pfs)?;
     }
     Ok(pfs)
 }
@@ -298,20 +239,10 @@ fn list_entries<T: Tree>(
     category: &Text,
 ) -> Result<Texts, LoadFault>
     requires { Knows (T.files tree.old) reader.now }
-    ensures value { IfOk result (λ value. IsTold (T.files tree.old) → value ≡ listed (look_in (T.files tree.old)) category.now) }
-    ensures went { OnOk result (Went (T.files tree.old) (T.faults tree.old) (T.faults tree.new) (list (cache_dir category.now) ∷ []) reader.now reader.now) }
-    ensures cause { IfErr result (Cause (T.files tree.old) (T.faults tree.old) (T.faults tree.new) (passed (look_in (T.files tree.old)) reader.now (list (cache_dir category.now) ∷ []))) }
-    ensures files { T.files tree.new ≡ T.files tree.old }
-    ensures around { around (T.entered tree.new) (T.lent tree.new) ≡ around (T.entered tree.old) (T.lent tree.old) }
-    ensures later { T.faults tree.old ≤ T.faults tree.new }
+    ensures { Reads (view T.files T.faults T.entered T.lent) tree.old tree.new (λ look. list (cache_dir category.now) ∷ []) (λ look value. value ≡ listed look category.now) reader.now reader.now result }
 {
-    let Ok(path) = cache_dir(alloc, category) else {
-        return Err(LoadFault::NoMemory);
-    };
-    match list_at(alloc, reader, tree, &path) {
-        Ok(names) => Ok(names),
-        Err(fault) => Err(fault),
-    }
+    let path = cache_dir(alloc, category)?;
+    list_at(alloc, reader, tree, &path)
 }
 
 // The package names among the folders of a category.
@@ -322,21 +253,10 @@ fn list_packages<T: Tree>(
     category: &Text,
 ) -> Result<Texts, LoadFault>
     requires { Knows (T.files tree.old) reader.now }
-    ensures value { IfOk result (λ value. IsTold (T.files tree.old) → value ≡ folders (look_in (T.files tree.old)) category.now) }
-    ensures went { OnOk result (Went (T.files tree.old) (T.faults tree.old) (T.faults tree.new) (list category.now ∷ []) reader.now reader.now) }
-    ensures cause { IfErr result (Cause (T.files tree.old) (T.faults tree.old) (T.faults tree.new) (passed (look_in (T.files tree.old)) reader.now (list category.now ∷ []))) }
-    ensures files { T.files tree.new ≡ T.files tree.old }
-    ensures around { around (T.entered tree.new) (T.lent tree.new) ≡ around (T.entered tree.old) (T.lent tree.old) }
-    ensures later { T.faults tree.old ≤ T.faults tree.new }
+    ensures { Reads (view T.files T.faults T.entered T.lent) tree.old tree.new (λ look. list category.now ∷ []) (λ look value. value ≡ folders look category.now) reader.now reader.now result }
 {
-    let names = match list_at(alloc, reader, tree, category) {
-        Ok(names) => names,
-        Err(fault) => return Err(fault),
-    };
-    match packages_among(alloc, &names) {
-        Ok(names) => Ok(names),
-        Err(_) => Err(LoadFault::NoMemory),
-    }
+    let names = list_at(alloc, reader, tree, category)?;
+    Ok(packages_among(alloc, &names)?)
 }
 
 // The same texts, as a set.

@@ -1,12 +1,12 @@
 //! Reads the files of a profile directory (PMS chapter 5), in their order.
 //!
 //! A directory costs its thirteen paths, those of its file directories, and O(the bytes that are there).
-ghost use Rattle.std.specs.Prelude.{◌≡◌, ◌≤◌, ◌∷◌, [], ◌++◌, Some, IfOk, IfErr, OnOk};
-ghost use Rattle.gv_load.specs.Causes.{Cause, Knows, Went, IsTold, look_in, around};
-ghost use Rattle.gv_load.specs.Directories.{bytes_at, files_at, file_steps, dir_files, dir_as, dir_at, head_steps, pair_steps, flag_steps, package_steps, inside_steps, dir_steps};
+ghost use Rattle.std.specs.Prelude.{◌≡◌, ◌∷◌, []};
+ghost use Rattle.gv_load.specs.Causes.{Knows, Reads, view};
+ghost use Rattle.gv_load.specs.Directories.{bytes_at, dir_files, dir_at, head_steps, pair_steps, flag_steps, package_steps, inside_steps, dir_steps};
 ghost use Rattle.gv_load.specs.Layout.{layout};
 ghost use Rattle.gv_load.specs.Parts.{head_at, pair_at, flags_at, packages_at, all_files};
-ghost use Rattle.gv_load.specs.Reading.{passed, read};
+ghost use Rattle.gv_load.specs.Reading.{read};
 ghost use Rattle.gv_profile.specs.Paths.{within};
 
 use crate::LoadFault;
@@ -57,21 +57,12 @@ pub(crate) fn read_directory<T: Tree>(
 ) -> Result<Option<DirFiles>, LoadFault>
     requires knows { Knows (T.files tree.old) reader.old }
     requires names { names.now ≡ layout }
-    ensures value { IfOk result (λ value. IsTold (T.files tree.old) → value ≡ dir_at (look_in (T.files tree.old)) dir.now) }
-    ensures went { OnOk result (Went (T.files tree.old) (T.faults tree.old) (T.faults tree.new) (dir_steps (look_in (T.files tree.old)) dir.now) reader.old reader.new) }
-    ensures cause { IfErr result (Cause (T.files tree.old) (T.faults tree.old) (T.faults tree.new) (passed (look_in (T.files tree.old)) reader.old (dir_steps (look_in (T.files tree.old)) dir.now))) }
-    ensures files { T.files tree.new ≡ T.files tree.old }
-    ensures around { around (T.entered tree.new) (T.lent tree.new) ≡ around (T.entered tree.old) (T.lent tree.old) }
-    ensures later { T.faults tree.old ≤ T.faults tree.new }
+    ensures { Reads (view T.files T.faults T.entered T.lent) tree.old tree.new (λ look. dir_steps look dir.now) (λ look value. value ≡ dir_at look dir.now) reader.old reader.new result }
 {
-    match reader.read(tree, dir) {
-        Ok(Found::Dir) => match read_inside(alloc, reader, tree, names, dir) {
-            Ok(files) => Ok(Some(files)),
-            Err(fault) => Err(fault),
-        },
-        Ok(Found::File(_)) => Ok(None),
-        Ok(Found::Absent) => Ok(None),
-        Err(fault) => Err(fault),
+    match reader.read(tree, dir)? {
+        Found::Dir => Ok(Some(read_inside(alloc, reader, tree, names, dir)?)),
+        Found::File(_) => Ok(None),
+        Found::Absent => Ok(None),
     }
 }
 
@@ -83,20 +74,10 @@ fn read_bytes<T: Tree>(
     name: &Text,
 ) -> Result<Option<Text>, LoadFault>
     requires knows { Knows (T.files tree.old) reader.old }
-    ensures value { IfOk result (λ value. IsTold (T.files tree.old) → value ≡ bytes_at (look_in (T.files tree.old)) (within dir.now name.now)) }
-    ensures went { OnOk result (Went (T.files tree.old) (T.faults tree.old) (T.faults tree.new) (read (within dir.now name.now) ∷ []) reader.old reader.new) }
-    ensures cause { IfErr result (Cause (T.files tree.old) (T.faults tree.old) (T.faults tree.new) (passed (look_in (T.files tree.old)) reader.old (read (within dir.now name.now) ∷ []))) }
-    ensures files { T.files tree.new ≡ T.files tree.old }
-    ensures around { around (T.entered tree.new) (T.lent tree.new) ≡ around (T.entered tree.old) (T.lent tree.old) }
-    ensures later { T.faults tree.old ≤ T.faults tree.new }
+    ensures { Reads (view T.files T.faults T.entered T.lent) tree.old tree.new (λ look. read (within dir.now name.now) ∷ []) (λ look value. value ≡ bytes_at look (within dir.now name.now)) reader.old reader.new result }
 {
-    let Ok(path) = within(alloc, dir, name.bytes()) else {
-        return Err(LoadFault::NoMemory);
-    };
-    match reader.bytes(tree, &path) {
-        Ok(bytes) => Ok(bytes),
-        Err(fault) => Err(fault),
-    }
+    let path = within(alloc, dir, name.bytes())?;
+    reader.bytes(tree, &path)
 }
 
 fn read_head<T: Tree>(
@@ -108,25 +89,11 @@ fn read_head<T: Tree>(
 ) -> Result<Head, LoadFault>
     requires knows { Knows (T.files tree.old) reader.old }
     requires names { names.now ≡ layout }
-    ensures value { IfOk result (λ value. IsTold (T.files tree.old) → value ≡ head_at (look_in (T.files tree.old)) dir.now) }
-    ensures went { OnOk result (Went (T.files tree.old) (T.faults tree.old) (T.faults tree.new) (head_steps dir.now) reader.old reader.new) }
-    ensures cause { IfErr result (Cause (T.files tree.old) (T.faults tree.old) (T.faults tree.new) (passed (look_in (T.files tree.old)) reader.old (head_steps dir.now))) }
-    ensures files { T.files tree.new ≡ T.files tree.old }
-    ensures around { around (T.entered tree.new) (T.lent tree.new) ≡ around (T.entered tree.old) (T.lent tree.old) }
-    ensures later { T.faults tree.old ≤ T.faults tree.new }
+    ensures { Reads (view T.files T.faults T.entered T.lent) tree.old tree.new (λ look. head_steps dir.now) (λ look value. value ≡ head_at look dir.now) reader.old reader.new result }
 {
-    let eapi = match read_bytes(alloc, reader, tree, dir, &names.eapi) {
-        Ok(eapi) => eapi,
-        Err(fault) => return Err(fault),
-    };
-    let parent = match read_bytes(alloc, reader, tree, dir, &names.parent) {
-        Ok(parent) => parent,
-        Err(fault) => return Err(fault),
-    };
-    let defaults = match read_bytes(alloc, reader, tree, dir, &names.defaults) {
-        Ok(defaults) => defaults,
-        Err(fault) => return Err(fault),
-    };
+    let eapi = read_bytes(alloc, reader, tree, dir, &names.eapi)?;
+    let parent = read_bytes(alloc, reader, tree, dir, &names.parent)?;
+    let defaults = read_bytes(alloc, reader, tree, dir, &names.defaults)?;
     Ok(Head {
         eapi,
         parent,
@@ -143,21 +110,10 @@ fn read_pair<T: Tree>(
     forcing: &Text,
 ) -> Result<Pair, LoadFault>
     requires knows { Knows (T.files tree.old) reader.old }
-    ensures value { IfOk result (λ value. IsTold (T.files tree.old) → value ≡ pair_at (look_in (T.files tree.old)) dir.now masking.now forcing.now) }
-    ensures went { OnOk result (Went (T.files tree.old) (T.faults tree.old) (T.faults tree.new) (pair_steps (look_in (T.files tree.old)) dir.now masking.now forcing.now) reader.old reader.new) }
-    ensures cause { IfErr result (Cause (T.files tree.old) (T.faults tree.old) (T.faults tree.new) (passed (look_in (T.files tree.old)) reader.old (pair_steps (look_in (T.files tree.old)) dir.now masking.now forcing.now))) }
-    ensures files { T.files tree.new ≡ T.files tree.old }
-    ensures around { around (T.entered tree.new) (T.lent tree.new) ≡ around (T.entered tree.old) (T.lent tree.old) }
-    ensures later { T.faults tree.old ≤ T.faults tree.new }
+    ensures { Reads (view T.files T.faults T.entered T.lent) tree.old tree.new (λ look. pair_steps look dir.now masking.now forcing.now) (λ look value. value ≡ pair_at look dir.now masking.now forcing.now) reader.old reader.new result }
 {
-    let mask = match read_named(alloc, reader, tree, dir, masking) {
-        Ok(mask) => mask,
-        Err(fault) => return Err(fault),
-    };
-    let force = match read_named(alloc, reader, tree, dir, forcing) {
-        Ok(force) => force,
-        Err(fault) => return Err(fault),
-    };
+    let mask = read_named(alloc, reader, tree, dir, masking)?;
+    let force = read_named(alloc, reader, tree, dir, forcing)?;
     Ok(Pair { mask, force })
 }
 
@@ -170,28 +126,17 @@ fn read_flags<T: Tree>(
 ) -> Result<Flags, LoadFault>
     requires knows { Knows (T.files tree.old) reader.old }
     requires names { names.now ≡ layout }
-    ensures value { IfOk result (λ value. IsTold (T.files tree.old) → value ≡ flags_at (look_in (T.files tree.old)) dir.now) }
-    ensures went { OnOk result (Went (T.files tree.old) (T.faults tree.old) (T.faults tree.new) (flag_steps (look_in (T.files tree.old)) dir.now) reader.old reader.new) }
-    ensures cause { IfErr result (Cause (T.files tree.old) (T.faults tree.old) (T.faults tree.new) (passed (look_in (T.files tree.old)) reader.old (flag_steps (look_in (T.files tree.old)) dir.now))) }
-    ensures files { T.files tree.new ≡ T.files tree.old }
-    ensures around { around (T.entered tree.new) (T.lent tree.new) ≡ around (T.entered tree.old) (T.lent tree.old) }
-    ensures later { T.faults tree.old ≤ T.faults tree.new }
+    ensures { Reads (view T.files T.faults T.entered T.lent) tree.old tree.new (λ look. flag_steps look dir.now) (λ look value. value ≡ flags_at look dir.now) reader.old reader.new result }
 {
-    let plain = match read_pair(alloc, reader, tree, dir, &names.use_mask, &names.use_force) {
-        Ok(plain) => plain,
-        Err(fault) => return Err(fault),
-    };
-    let stable = match read_pair(
+    let plain = read_pair(alloc, reader, tree, dir, &names.use_mask, &names.use_force)?;
+    let stable = read_pair(
         alloc,
         reader,
         tree,
         dir,
         &names.use_stable_mask,
         &names.use_stable_force,
-    ) {
-        Ok(stable) => stable,
-        Err(fault) => return Err(fault),
-    };
+    )?;
     Ok(Flags { plain, stable })
 }
 
@@ -204,39 +149,25 @@ fn read_packages<T: Tree>(
 ) -> Result<Packages, LoadFault>
     requires knows { Knows (T.files tree.old) reader.old }
     requires names { names.now ≡ layout }
-    ensures value { IfOk result (λ value. IsTold (T.files tree.old) → value ≡ packages_at (look_in (T.files tree.old)) dir.now) }
-    ensures went { OnOk result (Went (T.files tree.old) (T.faults tree.old) (T.faults tree.new) (package_steps (look_in (T.files tree.old)) dir.now) reader.old reader.new) }
-    ensures cause { IfErr result (Cause (T.files tree.old) (T.faults tree.old) (T.faults tree.new) (passed (look_in (T.files tree.old)) reader.old (package_steps (look_in (T.files tree.old)) dir.now))) }
-    ensures files { T.files tree.new ≡ T.files tree.old }
-    ensures around { around (T.entered tree.new) (T.lent tree.new) ≡ around (T.entered tree.old) (T.lent tree.old) }
-    ensures later { T.faults tree.old ≤ T.faults tree.new }
+    ensures { Reads (view T.files T.faults T.entered T.lent) tree.old tree.new (λ look. package_steps look dir.now) (λ look value. value ≡ packages_at look dir.now) reader.old reader.new result }
 {
-    let mask = match read_named(alloc, reader, tree, dir, &names.package_mask) {
-        Ok(mask) => mask,
-        Err(fault) => return Err(fault),
-    };
-    let plain = match read_pair(
+    let mask = read_named(alloc, reader, tree, dir, &names.package_mask)?;
+    let plain = read_pair(
         alloc,
         reader,
         tree,
         dir,
         &names.package_use_mask,
         &names.package_use_force,
-    ) {
-        Ok(plain) => plain,
-        Err(fault) => return Err(fault),
-    };
-    let stable = match read_pair(
+    )?;
+    let stable = read_pair(
         alloc,
         reader,
         tree,
         dir,
         &names.package_use_stable_mask,
         &names.package_use_stable_force,
-    ) {
-        Ok(stable) => stable,
-        Err(fault) => return Err(fault),
-    };
+    )?;
     Ok(Packages {
         mask,
         plain,
@@ -253,25 +184,11 @@ fn read_inside<T: Tree>(
 ) -> Result<DirFiles, LoadFault>
     requires knows { Knows (T.files tree.old) reader.old }
     requires names { names.now ≡ layout }
-    ensures value { IfOk result (λ value. IsTold (T.files tree.old) → value ≡ dir_files (look_in (T.files tree.old)) dir.now) }
-    ensures went { OnOk result (Went (T.files tree.old) (T.faults tree.old) (T.faults tree.new) (inside_steps (look_in (T.files tree.old)) dir.now) reader.old reader.new) }
-    ensures cause { IfErr result (Cause (T.files tree.old) (T.faults tree.old) (T.faults tree.new) (passed (look_in (T.files tree.old)) reader.old (inside_steps (look_in (T.files tree.old)) dir.now))) }
-    ensures files { T.files tree.new ≡ T.files tree.old }
-    ensures around { around (T.entered tree.new) (T.lent tree.new) ≡ around (T.entered tree.old) (T.lent tree.old) }
-    ensures later { T.faults tree.old ≤ T.faults tree.new }
+    ensures { Reads (view T.files T.faults T.entered T.lent) tree.old tree.new (λ look. inside_steps look dir.now) (λ look value. value ≡ dir_files look dir.now) reader.old reader.new result }
 {
-    let head = match read_head(alloc, reader, tree, names, dir) {
-        Ok(head) => head,
-        Err(fault) => return Err(fault),
-    };
-    let flags = match read_flags(alloc, reader, tree, names, dir) {
-        Ok(flags) => flags,
-        Err(fault) => return Err(fault),
-    };
-    let packages = match read_packages(alloc, reader, tree, names, dir) {
-        Ok(packages) => packages,
-        Err(fault) => return Err(fault),
-    };
+    let head = read_head(alloc, reader, tree, names, dir)?;
+    let flags = read_flags(alloc, reader, tree, names, dir)?;
+    let packages = read_packages(alloc, reader, tree, names, dir)?;
     Ok(all_files(head, flags, packages))
 }
 

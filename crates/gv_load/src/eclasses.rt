@@ -1,13 +1,12 @@
 //! The digests of the eclasses that entries name. Each eclass is read once, and its bytes are let go.
-ghost use Rattle.std.specs.Prelude.{◌≡◌, ◌≤◌, ◌∷◌, [], ◌++◌, flat_map, map, IfOk, IfErr, OnOk, OnErr};
+ghost use Rattle.std.specs.Prelude.{◌≡◌, ◌∷◌, [], ◌++◌, flat_map, map, IfOk, OnOk, OnErr};
 ghost use Rattle.std.specs.FinMap as finite;
-ghost use Rattle.gv_base.specs.Order.{in_order};
-ghost use Rattle.gv_load.specs.Causes.{Cause, Knows, Went, IsTold, look_in, around};
+ghost use Rattle.gv_load.specs.Causes.{Knows, Reads, view};
 ghost use Rattle.gv_load.specs.DigestWords.{digests_with, AllNamed, KeepsDigests};
-ghost use Rattle.gv_load.specs.Entries.{eclass_name, named_by, names_with, names_in, eclass_names, eclass_digest};
+ghost use Rattle.gv_load.specs.Entries.{eclass_name, named_by, names_in, eclass_names, eclass_digest};
 ghost use Rattle.gv_load.specs.Order.{eclass_steps};
 ghost use Rattle.gv_load.specs.Paths.{eclass_path};
-ghost use Rattle.gv_load.specs.Reading.{passed, once};
+ghost use Rattle.gv_load.specs.Reading.{once};
 
 use crate::LoadFault;
 use crate::entries::{PfRead, PfReads};
@@ -89,18 +88,11 @@ pub(crate) fn read_eclasses<T: Tree>(
     names: &Texts,
 ) -> Result<EclassDigests, LoadFault>
     requires knows { Knows (T.files tree.old) reader.old }
-    ensures value { IfOk result (λ digests. IsTold (T.files tree.old) → KeepsDigests (look_in (T.files tree.old)) names.now digests) }
-    ensures went { OnOk result (Went (T.files tree.old) (T.faults tree.old) (T.faults tree.new) (eclass_steps names.now) reader.old reader.new) }
-    ensures cause { IfErr result (Cause (T.files tree.old) (T.faults tree.old) (T.faults tree.new) (passed (look_in (T.files tree.old)) reader.old (eclass_steps names.now))) }
-    ensures files { T.files tree.new ≡ T.files tree.old }
-    ensures around { around (T.entered tree.new) (T.lent tree.new) ≡ around (T.entered tree.old) (T.lent tree.old) }
-    ensures later { T.faults tree.old ≤ T.faults tree.new }
+    ensures { Reads (view T.files T.faults T.entered T.lent) tree.old tree.new (λ look. eclass_steps names.now) (λ look digests. KeepsDigests look names.now digests) reader.old reader.new result }
 {
     let mut digests = EclassDigests::new(alloc);
     for name in names.items() {
-        if let Err(fault) = read_eclass(alloc, reader, tree, name, &mut digests) {
-            return Err(fault);
-        }
+        read_eclass(alloc, reader, tree, name, &mut digests)?;
     }
     Ok(digests)
 }
@@ -172,22 +164,9 @@ fn read_eclass<T: Tree>(
     digests: &mut EclassDigests,
 ) -> Result<(), LoadFault>
     requires knows { Knows (T.files tree.old) reader.old }
-    ensures value { OnOk result (IsTold (T.files tree.old) → digests.new ≡ digests_with digests.old name.now (eclass_digest (look_in (T.files tree.old)) name.now)) }
-    ensures went { OnOk result (Went (T.files tree.old) (T.faults tree.old) (T.faults tree.new) (once (eclass_path name.now) ∷ []) reader.old reader.new) }
-    ensures cause { IfErr result (Cause (T.files tree.old) (T.faults tree.old) (T.faults tree.new) (passed (look_in (T.files tree.old)) reader.old (once (eclass_path name.now) ∷ []))) }
-    ensures files { T.files tree.new ≡ T.files tree.old }
-    ensures around { around (T.entered tree.new) (T.lent tree.new) ≡ around (T.entered tree.old) (T.lent tree.old) }
-    ensures later { T.faults tree.old ≤ T.faults tree.new }
+    ensures { Reads (view T.files T.faults T.entered T.lent) tree.old tree.new (λ look. once (eclass_path name.now) ∷ []) (λ look _. digests.new ≡ digests_with digests.old name.now (eclass_digest look name.now)) reader.old reader.new result }
 {
-    let Ok(path) = eclass_path(alloc, name) else {
-        return Err(LoadFault::NoMemory);
-    };
-    let digest = match reader.digest_once(tree, &path) {
-        Ok(digest) => digest,
-        Err(fault) => return Err(fault),
-    };
-    match put_if(digests, name, digest) {
-        Ok(()) => Ok(()),
-        Err(_) => Err(LoadFault::NoMemory),
-    }
+    let path = eclass_path(alloc, name)?;
+    let digest = reader.digest_once(tree, &path)?;
+    Ok(put_if(digests, name, digest)?)
 }

@@ -1,17 +1,17 @@
 //! What is read of each PF of a category: its entry where it is listed, and the digest of its ebuild (PMS chapter 14).
 //!
 //! A PF costs O(its bytes) and O(log n) comparisons for n listed names. The bytes of ebuilds are let go.
-ghost use Rattle.std.specs.Prelude.{◌≡◌, ◌≤◌, ◌∷◌, [], ◌++◌, true, IfOk, IfErr, OnOk, OnErr, map};
+ghost use Rattle.std.specs.Prelude.{◌≡◌, ◌∷◌, [], ◌++◌, true, IfOk, OnOk, OnErr, map};
 ghost use Rattle.std.specs.List.{list_all};
 ghost use Rattle.gv_load.specs.Categories.{is_pf, name_of, pf_subject};
 ghost use Rattle.gv_entry.specs.EntryRead.{entry_of};
 ghost use Rattle.std.specs.Option.{option_map};
 ghost use Rattle.gv_load.specs.Directories.{bytes_at};
-ghost use Rattle.gv_load.specs.Causes.{Cause, Knows, Went, IsTold, look_in, around};
+ghost use Rattle.gv_load.specs.Causes.{Knows, Reads, view};
 ghost use Rattle.gv_load.specs.Entries.{entry_at, digest_at, pf_read, reads_of, all_reads};
 ghost use Rattle.gv_load.specs.Order.{entry_steps, pf_steps, pfs_steps, category_steps, categories_steps};
 ghost use Rattle.gv_load.specs.Paths.{entry_path, ebuild_path};
-ghost use Rattle.gv_load.specs.Reading.{passed, once};
+ghost use Rattle.gv_load.specs.Reading.{once};
 
 use crate::LoadFault;
 use crate::categories::{list_category, name_in, pf_subject};
@@ -101,17 +101,10 @@ pub(crate) fn read_pfs<T: Tree>(
 ) -> Result<(), LoadFault>
     requires knows { Knows (T.files tree.old) reader.old }
     requires pfs { list_all is_pf pfs.now ≡ true }
-    ensures value { OnOk result (IsTold (T.files tree.old) → reads.new ≡ reads.old ++ map (pf_read (look_in (T.files tree.old)) listed.now.keys category.now) pfs.now) }
-    ensures went { OnOk result (Went (T.files tree.old) (T.faults tree.old) (T.faults tree.new) (pfs_steps listed.now.keys category.now pfs.now) reader.old reader.new) }
-    ensures cause { IfErr result (Cause (T.files tree.old) (T.faults tree.old) (T.faults tree.new) (passed (look_in (T.files tree.old)) reader.old (pfs_steps listed.now.keys category.now pfs.now))) }
-    ensures files { T.files tree.new ≡ T.files tree.old }
-    ensures around { around (T.entered tree.new) (T.lent tree.new) ≡ around (T.entered tree.old) (T.lent tree.old) }
-    ensures later { T.faults tree.old ≤ T.faults tree.new }
+    ensures { Reads (view T.files T.faults T.entered T.lent) tree.old tree.new (λ look. pfs_steps listed.now.keys category.now pfs.now) (λ look _. reads.new ≡ reads.old ++ map (pf_read look listed.now.keys category.now) pfs.now) reader.old reader.new result }
 {
     for pf in pfs.items() {
-        if let Err(fault) = read_next(alloc, reader, tree, listed, category, pf, reads) {
-            return Err(fault);
-        }
+        read_next(alloc, reader, tree, listed, category, pf, reads)?;
     }
     Ok(())
 }
@@ -125,18 +118,11 @@ pub(crate) fn read_categories<T: Tree>(
     categories: &Texts,
 ) -> Result<PfReads, LoadFault>
     requires knows { Knows (T.files tree.old) reader.old }
-    ensures value { IfOk result (λ value. IsTold (T.files tree.old) → value ≡ all_reads (look_in (T.files tree.old)) categories.now) }
-    ensures went { OnOk result (Went (T.files tree.old) (T.faults tree.old) (T.faults tree.new) (categories_steps (look_in (T.files tree.old)) categories.now) reader.old reader.new) }
-    ensures cause { IfErr result (Cause (T.files tree.old) (T.faults tree.old) (T.faults tree.new) (passed (look_in (T.files tree.old)) reader.old (categories_steps (look_in (T.files tree.old)) categories.now))) }
-    ensures files { T.files tree.new ≡ T.files tree.old }
-    ensures around { around (T.entered tree.new) (T.lent tree.new) ≡ around (T.entered tree.old) (T.lent tree.old) }
-    ensures later { T.faults tree.old ≤ T.faults tree.new }
+    ensures { Reads (view T.files T.faults T.entered T.lent) tree.old tree.new (λ look. categories_steps look categories.now) (λ look value. value ≡ all_reads look categories.now) reader.old reader.new result }
 {
     let mut reads = PfReads::new(alloc);
     for category in categories.items() {
-        if let Err(fault) = read_category(alloc, reader, tree, category, &mut reads) {
-            return Err(fault);
-        }
+        read_category(alloc, reader, tree, category, &mut reads)?;
     }
     Ok(reads)
 }
@@ -165,24 +151,11 @@ fn read_there<T: Tree>(
 ) -> Result<Option<Entry>, LoadFault>
     requires knows { Knows (T.files tree.old) reader.old }
     requires pf { is_pf pf.now ≡ true }
-    ensures value { IfOk result (λ value. IsTold (T.files tree.old) → value ≡ option_map (entry_of category.now pf.now) (bytes_at (look_in (T.files tree.old)) (entry_path category.now pf.now))) }
-    ensures went { OnOk result (Went (T.files tree.old) (T.faults tree.old) (T.faults tree.new) (once (entry_path category.now pf.now) ∷ []) reader.old reader.new) }
-    ensures cause { IfErr result (Cause (T.files tree.old) (T.faults tree.old) (T.faults tree.new) (passed (look_in (T.files tree.old)) reader.old (once (entry_path category.now pf.now) ∷ []))) }
-    ensures files { T.files tree.new ≡ T.files tree.old }
-    ensures around { around (T.entered tree.new) (T.lent tree.new) ≡ around (T.entered tree.old) (T.lent tree.old) }
-    ensures later { T.faults tree.old ≤ T.faults tree.new }
+    ensures { Reads (view T.files T.faults T.entered T.lent) tree.old tree.new (λ look. once (entry_path category.now pf.now) ∷ []) (λ look value. value ≡ option_map (entry_of category.now pf.now) (bytes_at look (entry_path category.now pf.now))) reader.old reader.new result }
 {
-    let Ok(path) = entry_path(alloc, category, pf) else {
-        return Err(LoadFault::NoMemory);
-    };
-    let bytes = match reader.bytes_once(tree, &path) {
-        Ok(bytes) => bytes,
-        Err(fault) => return Err(fault),
-    };
-    match entry_in(alloc, category, pf, bytes) {
-        Ok(entry) => Ok(entry),
-        Err(_) => Err(LoadFault::NoMemory),
-    }
+    let path = entry_path(alloc, category, pf)?;
+    let bytes = reader.bytes_once(tree, &path)?;
+    Ok(entry_in(alloc, category, pf, bytes)?)
 }
 
 // The entry of a PF, where it is listed and is a file.
@@ -196,20 +169,12 @@ fn read_listed<T: Tree>(
 ) -> Result<Option<Entry>, LoadFault>
     requires knows { Knows (T.files tree.old) reader.old }
     requires pf { is_pf pf.now ≡ true }
-    ensures value { IfOk result (λ value. IsTold (T.files tree.old) → value ≡ entry_at (look_in (T.files tree.old)) listed.now.keys category.now pf.now) }
-    ensures went { OnOk result (Went (T.files tree.old) (T.faults tree.old) (T.faults tree.new) (entry_steps listed.now.keys category.now pf.now) reader.old reader.new) }
-    ensures cause { IfErr result (Cause (T.files tree.old) (T.faults tree.old) (T.faults tree.new) (passed (look_in (T.files tree.old)) reader.old (entry_steps listed.now.keys category.now pf.now))) }
-    ensures files { T.files tree.new ≡ T.files tree.old }
-    ensures around { around (T.entered tree.new) (T.lent tree.new) ≡ around (T.entered tree.old) (T.lent tree.old) }
-    ensures later { T.faults tree.old ≤ T.faults tree.new }
+    ensures { Reads (view T.files T.faults T.entered T.lent) tree.old tree.new (λ look. entry_steps listed.now.keys category.now pf.now) (λ look value. value ≡ entry_at look listed.now.keys category.now pf.now) reader.old reader.new result }
 {
     if !has_key(listed, pf) {
         return Ok(None);
     }
-    match read_there(alloc, reader, tree, category, pf) {
-        Ok(entry) => Ok(entry),
-        Err(fault) => Err(fault),
-    }
+    read_there(alloc, reader, tree, category, pf)
 }
 
 // The digest of a PF's ebuild, where it is a file.
@@ -221,20 +186,10 @@ fn read_ebuild<T: Tree>(
     pf: &Text,
 ) -> Result<Option<[u8; 16]>, LoadFault>
     requires knows { Knows (T.files tree.old) reader.old }
-    ensures value { IfOk result (λ value. IsTold (T.files tree.old) → value ≡ digest_at (look_in (T.files tree.old)) (ebuild_path category.now (name_of pf.now) pf.now)) }
-    ensures went { OnOk result (Went (T.files tree.old) (T.faults tree.old) (T.faults tree.new) (once (ebuild_path category.now (name_of pf.now) pf.now) ∷ []) reader.old reader.new) }
-    ensures cause { IfErr result (Cause (T.files tree.old) (T.faults tree.old) (T.faults tree.new) (passed (look_in (T.files tree.old)) reader.old (once (ebuild_path category.now (name_of pf.now) pf.now) ∷ []))) }
-    ensures files { T.files tree.new ≡ T.files tree.old }
-    ensures around { around (T.entered tree.new) (T.lent tree.new) ≡ around (T.entered tree.old) (T.lent tree.old) }
-    ensures later { T.faults tree.old ≤ T.faults tree.new }
+    ensures { Reads (view T.files T.faults T.entered T.lent) tree.old tree.new (λ look. once (ebuild_path category.now (name_of pf.now) pf.now) ∷ []) (λ look value. value ≡ digest_at look (ebuild_path category.now (name_of pf.now) pf.now)) reader.old reader.new result }
 {
-    let Ok(path) = ebuild_path_of(alloc, category, pf) else {
-        return Err(LoadFault::NoMemory);
-    };
-    match reader.digest_once(tree, &path) {
-        Ok(digest) => Ok(digest),
-        Err(fault) => Err(fault),
-    }
+    let path = ebuild_path_of(alloc, category, pf)?;
+    reader.digest_once(tree, &path)
 }
 
 fn ebuild_path_of(alloc: Global, category: &Text, pf: &Text) -> Result<Text, NoMemory>
@@ -250,19 +205,16 @@ fn pf_read(
     pf: &Text,
     entry: Option<Entry>,
     ebuild: Option<[u8; 16]>,
-) -> Result<PfRead, LoadFault>
+) -> Result<PfRead, NoMemory>
     requires { is_pf pf.now ≡ true }
-    ensures ok { IfOk result (λ read. read ≡ record { subject = pf_subject category.now pf.now; entry = entry; ebuild = ebuild }) }
-    ensures err { IfErr result (λ fault. fault ≡ LoadFault.NoMemory) }
+    ensures { IfOk result (λ read. read ≡ record { subject = pf_subject category.now pf.now; entry = entry; ebuild = ebuild }) }
 {
-    match pf_subject(alloc, category, pf) {
-        Ok(subject) => Ok(PfRead {
-            subject,
-            entry,
-            ebuild,
-        }),
-        Err(_) => Err(LoadFault::NoMemory),
-    }
+    let subject = pf_subject(alloc, category, pf)?;
+    Ok(PfRead {
+        subject,
+        entry,
+        ebuild,
+    })
 }
 
 // Reads a PF: its entry where it is listed, then its ebuild.
@@ -276,25 +228,11 @@ fn read_pf<T: Tree>(
 ) -> Result<PfRead, LoadFault>
     requires knows { Knows (T.files tree.old) reader.old }
     requires pf { is_pf pf.now ≡ true }
-    ensures value { IfOk result (λ value. IsTold (T.files tree.old) → value ≡ pf_read (look_in (T.files tree.old)) listed.now.keys category.now pf.now) }
-    ensures went { OnOk result (Went (T.files tree.old) (T.faults tree.old) (T.faults tree.new) (pf_steps listed.now.keys category.now pf.now) reader.old reader.new) }
-    ensures cause { IfErr result (Cause (T.files tree.old) (T.faults tree.old) (T.faults tree.new) (passed (look_in (T.files tree.old)) reader.old (pf_steps listed.now.keys category.now pf.now))) }
-    ensures files { T.files tree.new ≡ T.files tree.old }
-    ensures around { around (T.entered tree.new) (T.lent tree.new) ≡ around (T.entered tree.old) (T.lent tree.old) }
-    ensures later { T.faults tree.old ≤ T.faults tree.new }
+    ensures { Reads (view T.files T.faults T.entered T.lent) tree.old tree.new (λ look. pf_steps listed.now.keys category.now pf.now) (λ look value. value ≡ pf_read look listed.now.keys category.now pf.now) reader.old reader.new result }
 {
-    let entry = match read_listed(alloc, reader, tree, listed, category, pf) {
-        Ok(entry) => entry,
-        Err(fault) => return Err(fault),
-    };
-    let ebuild = match read_ebuild(alloc, reader, tree, category, pf) {
-        Ok(ebuild) => ebuild,
-        Err(fault) => return Err(fault),
-    };
-    match pf_read(alloc, category, pf, entry, ebuild) {
-        Ok(read) => Ok(read),
-        Err(fault) => Err(fault),
-    }
+    let entry = read_listed(alloc, reader, tree, listed, category, pf)?;
+    let ebuild = read_ebuild(alloc, reader, tree, category, pf)?;
+    Ok(pf_read(alloc, category, pf, entry, ebuild)?)
 }
 
 fn read_next<T: Tree>(
@@ -308,21 +246,10 @@ fn read_next<T: Tree>(
 ) -> Result<(), LoadFault>
     requires knows { Knows (T.files tree.old) reader.old }
     requires pf { is_pf pf.now ≡ true }
-    ensures value { OnOk result (IsTold (T.files tree.old) → reads.new ≡ reads.old ++ pf_read (look_in (T.files tree.old)) listed.now.keys category.now pf.now ∷ []) }
-    ensures went { OnOk result (Went (T.files tree.old) (T.faults tree.old) (T.faults tree.new) (pf_steps listed.now.keys category.now pf.now) reader.old reader.new) }
-    ensures cause { IfErr result (Cause (T.files tree.old) (T.faults tree.old) (T.faults tree.new) (passed (look_in (T.files tree.old)) reader.old (pf_steps listed.now.keys category.now pf.now))) }
-    ensures files { T.files tree.new ≡ T.files tree.old }
-    ensures around { around (T.entered tree.new) (T.lent tree.new) ≡ around (T.entered tree.old) (T.lent tree.old) }
-    ensures later { T.faults tree.old ≤ T.faults tree.new }
+    ensures { Reads (view T.files T.faults T.entered T.lent) tree.old tree.new (λ look. pf_steps listed.now.keys category.now pf.now) (λ look _. reads.new ≡ reads.old ++ pf_read look listed.now.keys category.now pf.now ∷ []) reader.old reader.new result }
 {
-    let read = match read_pf(alloc, reader, tree, listed, category, pf) {
-        Ok(read) => read,
-        Err(fault) => return Err(fault),
-    };
-    match reads.add(read) {
-        Ok(()) => Ok(()),
-        Err(_) => Err(LoadFault::NoMemory),
-    }
+    let read = read_pf(alloc, reader, tree, listed, category, pf)?;
+    Ok(reads.add(read)?)
 }
 
 // Lists a category, reads the entries and ebuilds of its PFs in byte order, and adds what they are at the end.
@@ -334,18 +261,10 @@ fn read_category<T: Tree>(
     reads: &mut PfReads,
 ) -> Result<(), LoadFault>
     requires knows { Knows (T.files tree.old) reader.old }
-    ensures value { OnOk result (IsTold (T.files tree.old) → reads.new ≡ reads.old ++ reads_of (look_in (T.files tree.old)) category.now) }
-    ensures went { OnOk result (Went (T.files tree.old) (T.faults tree.old) (T.faults tree.new) (category_steps (look_in (T.files tree.old)) category.now) reader.old reader.new) }
-    ensures cause { IfErr result (Cause (T.files tree.old) (T.faults tree.old) (T.faults tree.new) (passed (look_in (T.files tree.old)) reader.old (category_steps (look_in (T.files tree.old)) category.now))) }
-    ensures files { T.files tree.new ≡ T.files tree.old }
-    ensures around { around (T.entered tree.new) (T.lent tree.new) ≡ around (T.entered tree.old) (T.lent tree.old) }
-    ensures later { T.faults tree.old ≤ T.faults tree.new }
+    ensures { Reads (view T.files T.faults T.entered T.lent) tree.old tree.new (λ look. category_steps look category.now) (λ look _. reads.new ≡ reads.old ++ reads_of look category.now) reader.old reader.new result }
 {
-    let listing = match list_category(alloc, reader, tree, category) {
-        Ok(listing) => listing,
-        Err(fault) => return Err(fault),
-    };
-    match read_pfs(
+    let listing = list_category(alloc, reader, tree, category)?;
+    read_pfs(
         alloc,
         reader,
         tree,
@@ -353,8 +272,6 @@ fn read_category<T: Tree>(
         category,
         &listing.pfs,
         reads,
-    ) {
-        Ok(()) => Ok(()),
-        Err(fault) => Err(fault),
-    }
+    )?;
+    Ok(())
 }

@@ -34,10 +34,6 @@ mod paths;
 mod reaching;
 mod reader;
 mod stacks;
-#[cfg(test)]
-mod test_script;
-#[cfg(test)]
-mod tests;
 
 pub use faults::LoadFault;
 pub use laws::once_law;

@@ -1,14 +1,13 @@
 //! The profiles of the lines: the directories that they reach, their stacks, and the bad lines that were read.
 //!
 //! Costs what `reaching` and `stacks` say, and O(bytes) for the bad lines of each directory, once.
-ghost use Rattle.std.specs.Prelude.{◌≡◌, ◌≤◌, ◌++◌, IfOk, IfErr, OnOk};
+ghost use Rattle.std.specs.Prelude.{◌≡◌, ◌++◌, IfOk, OnOk};
 ghost use Rattle.std.specs.FinMap as finite;
-ghost use Rattle.gv_load.specs.Causes.{Cause, Knows, Went, IsTold, look_in, around};
+ghost use Rattle.gv_load.specs.Causes.{Knows, Reads, view};
 ghost use Rattle.gv_load.specs.Layout.{layout};
 ghost use Rattle.gv_load.specs.Notes.{notes_at, notes_in};
 ghost use Rattle.gv_load.specs.Order.{profiles_steps};
 ghost use Rattle.gv_load.specs.PartsRead.{profiled_of};
-ghost use Rattle.gv_load.specs.Reading.{passed};
 
 use crate::LoadFault;
 use crate::layout::Layout;
@@ -43,25 +42,11 @@ pub(crate) fn read_profiles<T: Tree>(
 ) -> Result<Profiled, LoadFault>
     requires knows { Knows (T.files tree.old) reader.old }
     requires names { names.now ≡ layout }
-    ensures value { IfOk result (λ value. IsTold (T.files tree.old) → value ≡ profiled_of (look_in (T.files tree.old)) masks.now lines.now) }
-    ensures went { OnOk result (Went (T.files tree.old) (T.faults tree.old) (T.faults tree.new) (profiles_steps (look_in (T.files tree.old)) lines.now) reader.old reader.new) }
-    ensures cause { IfErr result (Cause (T.files tree.old) (T.faults tree.old) (T.faults tree.new) (passed (look_in (T.files tree.old)) reader.old (profiles_steps (look_in (T.files tree.old)) lines.now))) }
-    ensures files { T.files tree.new ≡ T.files tree.old }
-    ensures around { around (T.entered tree.new) (T.lent tree.new) ≡ around (T.entered tree.old) (T.lent tree.old) }
-    ensures later { T.faults tree.old ≤ T.faults tree.new }
+    ensures { Reads (view T.files T.faults T.entered T.lent) tree.old tree.new (λ look. profiles_steps look lines.now) (λ look value. value ≡ profiled_of look masks.now lines.now) reader.old reader.new result }
 {
-    let reached = match read_dirs(alloc, reader, tree, names, lines) {
-        Ok(reached) => reached,
-        Err(fault) => return Err(fault),
-    };
-    let folds = match fold_lines(alloc, &reached.dirs, masks, lines) {
-        Ok(folds) => folds,
-        Err(fault) => return Err(fault),
-    };
-    match with_notes(alloc, folds, &reached) {
-        Ok(profiled) => Ok(profiled),
-        Err(_) => Err(LoadFault::NoMemory),
-    }
+    let reached = read_dirs(alloc, reader, tree, names, lines)?;
+    let folds = fold_lines(alloc, &reached.dirs, masks, lines)?;
+    Ok(with_notes(alloc, folds, &reached)?)
 }
 
 fn add_dir_notes(

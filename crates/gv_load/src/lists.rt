@@ -1,13 +1,10 @@
 //! The lists at the top of a repository and its own masks (PMS chapter 4). O(bytes), and the categories are sorted.
-ghost use Rattle.std.specs.Prelude.{◌≡◌, ◌≤◌, ◌+◌, ◌++◌, IfOk, IfErr, OnOk, option_to_list};
+ghost use Rattle.std.specs.Prelude.{◌≡◌, ◌+◌, ◌++◌, IfOk, OnOk, option_to_list};
 ghost use Rattle.gv_load.specs.Categories.{category_in, categories_in};
-ghost use Rattle.gv_load.specs.Causes.{Cause, Knows, Went, IsTold, look_in, around};
+ghost use Rattle.gv_load.specs.Causes.{Knows, Reads, view};
 ghost use Rattle.gv_load.specs.Notes.{bad_category, category_detail, category_notes, is_bad_category};
 ghost use Rattle.gv_load.specs.Order.{list_steps};
-ghost use Rattle.gv_load.specs.Paths.{desc_path, categories_path, mask_path};
 ghost use Rattle.gv_load.specs.PartsRead.{lists_of, lists_with, top_paths};
-ghost use Rattle.gv_load.specs.Reading.{passed};
-ghost use Rattle.gv_profile.specs.Lines.{line_words};
 
 use crate::LoadFault;
 use crate::named_files::read_files;
@@ -59,29 +56,12 @@ pub(crate) fn read_lists<T: Tree>(
 ) -> Result<Lists, LoadFault>
     requires knows { Knows (T.files tree.old) reader.old }
     requires paths { paths.now ≡ top_paths }
-    ensures value { IfOk result (λ value. IsTold (T.files tree.old) → value ≡ lists_of (look_in (T.files tree.old))) }
-    ensures went { OnOk result (Went (T.files tree.old) (T.faults tree.old) (T.faults tree.new) (list_steps (look_in (T.files tree.old))) reader.old reader.new) }
-    ensures cause { IfErr result (Cause (T.files tree.old) (T.faults tree.old) (T.faults tree.new) (passed (look_in (T.files tree.old)) reader.old (list_steps (look_in (T.files tree.old))))) }
-    ensures files { T.files tree.new ≡ T.files tree.old }
-    ensures around { around (T.entered tree.new) (T.lent tree.new) ≡ around (T.entered tree.old) (T.lent tree.old) }
-    ensures later { T.faults tree.old ≤ T.faults tree.new }
+    ensures { Reads (view T.files T.faults T.entered T.lent) tree.old tree.new (λ look. list_steps look) (λ look value. value ≡ lists_of look) reader.old reader.new result }
 {
-    let desc = match reader.need(tree, &paths.desc) {
-        Ok(desc) => desc,
-        Err(fault) => return Err(fault),
-    };
-    let categories = match reader.need(tree, &paths.categories) {
-        Ok(categories) => categories,
-        Err(fault) => return Err(fault),
-    };
-    let masks = match read_files(alloc, reader, tree, &paths.masks) {
-        Ok(masks) => masks,
-        Err(fault) => return Err(fault),
-    };
-    match lists_with(alloc, &desc, &categories, masks) {
-        Ok(lists) => Ok(lists),
-        Err(_) => Err(LoadFault::NoMemory),
-    }
+    let desc = reader.need(tree, &paths.desc)?;
+    let categories = reader.need(tree, &paths.categories)?;
+    let masks = read_files(alloc, reader, tree, &paths.masks)?;
+    Ok(lists_with(alloc, &desc, &categories, masks)?)
 }
 
 /// Adds notes behind others.

@@ -4,13 +4,12 @@
 //! were read, and what folding the stacks costs. Files of profiles are kept until the end; of an entry what it says is
 //! kept, and of ebuilds and eclasses their digests.
 ghost use Rattle.std.specs.Prelude.{◌≡◌, ◌≤◌, Ok, length, IfOk, IfErr, IfSome, OnOk};
-ghost use Rattle.gv_load.specs.Causes.{Cause, Knows, Went, IsTold, around, look_in};
+ghost use Rattle.gv_load.specs.Causes.{Knows, Reads, view};
 ghost use Rattle.gv_load.specs.Layout.{layout};
 ghost use Rattle.gv_load.specs.Loading.{LoadCause, loading};
 ghost use Rattle.gv_load.specs.Look.{look_of};
 ghost use Rattle.gv_load.specs.Order.{load_steps};
 ghost use Rattle.gv_load.specs.PartsRead.{notes_with, repo_with, top_paths};
-ghost use Rattle.gv_load.specs.Reading.{passed};
 ghost use Rattle.gv_load.specs.Repository.{AreInPackageOrder, repository};
 
 use crate::LoadFault;
@@ -61,17 +60,10 @@ pub fn load<T: Tree>(alloc: Global, tree: &mut T) -> Result<Repo, LoadFault>
     ensures later { T.faults tree.old ≤ T.faults tree.new }
     ensures calm { OnOk result (T.faults tree.new ≡ T.faults tree.old) }
 {
-    let Ok(paths) = top_paths(alloc) else {
-        return Err(LoadFault::NoMemory);
-    };
-    let Ok(names) = dir_names(alloc) else {
-        return Err(LoadFault::NoMemory);
-    };
+    let paths = top_paths(alloc)?;
+    let names = dir_names(alloc)?;
     let mut reader = Reader::new(alloc);
-    match read_repo(alloc, &mut reader, tree, &paths, &names) {
-        Ok(repo) => Ok(repo),
-        Err(fault) => Err(fault),
-    }
+    read_repo(alloc, &mut reader, tree, &paths, &names)
 }
 
 // Reads the lists, the profiles and the packages.
@@ -85,31 +77,14 @@ fn read_repo<T: Tree>(
     requires knows { Knows (T.files tree.old) reader.old }
     requires paths { paths.now ≡ top_paths }
     requires names { names.now ≡ layout }
-    ensures value { IfOk result (λ value. IsTold (T.files tree.old) → value ≡ repository (look_in (T.files tree.old))) }
+    ensures reads { Reads (view T.files T.faults T.entered T.lent) tree.old tree.new (λ look. load_steps look) (λ look value. value ≡ repository look) reader.old reader.new result }
     ensures bodies { IfOk result (λ repo. length repo.bodies ≡ length repo.pkgs) }
     ensures order { IfOk result (λ repo. AreInPackageOrder repo.pkgs) }
-    ensures went { OnOk result (Went (T.files tree.old) (T.faults tree.old) (T.faults tree.new) (load_steps (look_in (T.files tree.old))) reader.old reader.new) }
-    ensures cause { IfErr result (Cause (T.files tree.old) (T.faults tree.old) (T.faults tree.new) (passed (look_in (T.files tree.old)) reader.old (load_steps (look_in (T.files tree.old))))) }
-    ensures files { T.files tree.new ≡ T.files tree.old }
-    ensures around { around (T.entered tree.new) (T.lent tree.new) ≡ around (T.entered tree.old) (T.lent tree.old) }
-    ensures later { T.faults tree.old ≤ T.faults tree.new }
 {
-    let lists = match read_lists(alloc, reader, tree, paths) {
-        Ok(lists) => lists,
-        Err(fault) => return Err(fault),
-    };
-    let profiled = match read_profiles(alloc, reader, tree, names, &lists.masks, &lists.lines) {
-        Ok(profiled) => profiled,
-        Err(fault) => return Err(fault),
-    };
-    let kepts = match read_packages(alloc, reader, tree, &lists.categories) {
-        Ok(kepts) => kepts,
-        Err(fault) => return Err(fault),
-    };
-    match repo_with(alloc, lists, profiled, kepts) {
-        Ok(repo) => Ok(repo),
-        Err(_) => Err(LoadFault::NoMemory),
-    }
+    let lists = read_lists(alloc, reader, tree, paths)?;
+    let profiled = read_profiles(alloc, reader, tree, names, &lists.masks, &lists.lines)?;
+    let kepts = read_packages(alloc, reader, tree, &lists.categories)?;
+    Ok(repo_with(alloc, lists, profiled, kepts)?)
 }
 
 fn repo_with(

@@ -1,14 +1,14 @@
 //! A file, or the files of a folder, as the mask and flag files of a profile directory may be either.
 //!
 //! A file costs its path, a folder its listing and a path for each name that counts.
-ghost use Rattle.std.specs.Prelude.{◌≡◌, ◌≤◌, ◌∷◌, [], ◌++◌, filter, IfOk, IfErr, OnOk};
-ghost use Rattle.gv_load.specs.Causes.{Cause, Knows, Went, IsTold, look_in, around};
-ghost use Rattle.gv_load.specs.Directories.{has_dot, counts, folder_names, name_steps, folder_steps, file_steps, plain_file, folder_files, files_as, files_at};
-ghost use Rattle.gv_load.specs.Reading.{passed, read, list};
+ghost use Rattle.std.specs.Prelude.{◌≡◌, ◌∷◌, [], ◌++◌, filter, IfOk, OnOk};
+ghost use Rattle.gv_load.specs.Causes.{Knows, Reads, view};
+ghost use Rattle.gv_load.specs.Directories.{has_dot, counts, name_steps, folder_steps, file_steps, plain_file, folder_files, files_as, files_at};
+ghost use Rattle.gv_load.specs.Reading.{read};
 ghost use Rattle.gv_profile.specs.Paths.{within};
 
 use crate::LoadFault;
-use crate::reader::{Reader, list_names};
+use crate::reader::{Reader, list_at};
 use gv_base::{Found, NoMemory, Text, Texts, Tree, has_plain_bytes};
 use gv_profile::{NamedFile, NamedFiles, within};
 use std::alloc::Global;
@@ -22,24 +22,12 @@ pub(crate) fn read_files<T: Tree>(
     path: &Text,
 ) -> Result<NamedFiles, LoadFault>
     requires { Knows (T.files tree.old) reader.old }
-    ensures named { IfOk result (λ named. IsTold (T.files tree.old) → named ≡ files_at (look_in (T.files tree.old)) path.now) }
-    ensures went { OnOk result (Went (T.files tree.old) (T.faults tree.old) (T.faults tree.new) (file_steps (look_in (T.files tree.old)) path.now) reader.old reader.new) }
-    ensures cause { IfErr result (Cause (T.files tree.old) (T.faults tree.old) (T.faults tree.new) (passed (look_in (T.files tree.old)) reader.old (file_steps (look_in (T.files tree.old)) path.now))) }
-    ensures files { T.files tree.new ≡ T.files tree.old }
-    ensures around { around (T.entered tree.new) (T.lent tree.new) ≡ around (T.entered tree.old) (T.lent tree.old) }
-    ensures later { T.faults tree.old ≤ T.faults tree.new }
+    ensures { Reads (view T.files T.faults T.entered T.lent) tree.old tree.new (λ look. file_steps look path.now) (λ look named. named ≡ files_at look path.now) reader.old reader.new result }
 {
-    match reader.read(tree, path) {
-        Ok(Found::File(bytes)) => match one(alloc, path, bytes) {
-            Ok(files) => Ok(files),
-            Err(fault) => Err(fault),
-        },
-        Ok(Found::Dir) => match read_folder(alloc, reader, tree, path) {
-            Ok(files) => Ok(files),
-            Err(fault) => Err(fault),
-        },
-        Ok(Found::Absent) => Ok(NamedFiles::new(alloc)),
-        Err(fault) => Err(fault),
+    match reader.read(tree, path)? {
+        Found::File(bytes) => Ok(one(alloc, path, bytes)?),
+        Found::Dir => read_folder(alloc, reader, tree, path),
+        Found::Absent => Ok(NamedFiles::new(alloc)),
     }
 }
 
@@ -52,20 +40,10 @@ pub(crate) fn read_named<T: Tree>(
     name: &Text,
 ) -> Result<NamedFiles, LoadFault>
     requires { Knows (T.files tree.old) reader.old }
-    ensures named { IfOk result (λ named. IsTold (T.files tree.old) → named ≡ files_at (look_in (T.files tree.old)) (within dir.now name.now)) }
-    ensures went { OnOk result (Went (T.files tree.old) (T.faults tree.old) (T.faults tree.new) (file_steps (look_in (T.files tree.old)) (within dir.now name.now)) reader.old reader.new) }
-    ensures cause { IfErr result (Cause (T.files tree.old) (T.faults tree.old) (T.faults tree.new) (passed (look_in (T.files tree.old)) reader.old (file_steps (look_in (T.files tree.old)) (within dir.now name.now)))) }
-    ensures files { T.files tree.new ≡ T.files tree.old }
-    ensures around { around (T.entered tree.new) (T.lent tree.new) ≡ around (T.entered tree.old) (T.lent tree.old) }
-    ensures later { T.faults tree.old ≤ T.faults tree.new }
+    ensures { Reads (view T.files T.faults T.entered T.lent) tree.old tree.new (λ look. file_steps look (within dir.now name.now)) (λ look named. named ≡ files_at look (within dir.now name.now)) reader.old reader.new result }
 {
-    let Ok(path) = within(alloc, dir, name.bytes()) else {
-        return Err(LoadFault::NoMemory);
-    };
-    match read_files(alloc, reader, tree, &path) {
-        Ok(files) => Ok(files),
-        Err(fault) => Err(fault),
-    }
+    let path = within(alloc, dir, name.bytes())?;
+    read_files(alloc, reader, tree, &path)
 }
 
 fn has_dot(name: &[u8]) -> bool
@@ -118,24 +96,11 @@ fn read_name<T: Tree>(
     files: &mut NamedFiles,
 ) -> Result<(), LoadFault>
     requires { Knows (T.files tree.old) reader.old }
-    ensures named { OnOk result (IsTold (T.files tree.old) → files.new ≡ files.old ++ plain_file (within dir.now name.now) ((look_in (T.files tree.old)).found (within dir.now name.now))) }
-    ensures went { OnOk result (Went (T.files tree.old) (T.faults tree.old) (T.faults tree.new) (read (within dir.now name.now) ∷ []) reader.old reader.new) }
-    ensures cause { IfErr result (Cause (T.files tree.old) (T.faults tree.old) (T.faults tree.new) (passed (look_in (T.files tree.old)) reader.old (read (within dir.now name.now) ∷ []))) }
-    ensures files { T.files tree.new ≡ T.files tree.old }
-    ensures around { around (T.entered tree.new) (T.lent tree.new) ≡ around (T.entered tree.old) (T.lent tree.old) }
-    ensures later { T.faults tree.old ≤ T.faults tree.new }
+    ensures { Reads (view T.files T.faults T.entered T.lent) tree.old tree.new (λ look. read (within dir.now name.now) ∷ []) (λ look _. files.new ≡ files.old ++ plain_file (within dir.now name.now) (look.found (within dir.now name.now))) reader.old reader.new result }
 {
-    let Ok(path) = within(alloc, dir, name.bytes()) else {
-        return Err(LoadFault::NoMemory);
-    };
-    let found = match reader.read(tree, &path) {
-        Ok(found) => found,
-        Err(fault) => return Err(fault),
-    };
-    match add_plain(files, path, found) {
-        Ok(()) => Ok(()),
-        Err(_) => Err(LoadFault::NoMemory),
-    }
+    let path = within(alloc, dir, name.bytes())?;
+    let found = reader.read(tree, &path)?;
+    Ok(add_plain(files, path, found)?)
 }
 
 // Reads these names of a folder.
@@ -147,18 +112,11 @@ fn read_names<T: Tree>(
     names: &Texts,
 ) -> Result<NamedFiles, LoadFault>
     requires { Knows (T.files tree.old) reader.old }
-    ensures named { IfOk result (λ named. IsTold (T.files tree.old) → named ≡ folder_files (look_in (T.files tree.old)) dir.now names.now) }
-    ensures went { OnOk result (Went (T.files tree.old) (T.faults tree.old) (T.faults tree.new) (name_steps dir.now names.now) reader.old reader.new) }
-    ensures cause { IfErr result (Cause (T.files tree.old) (T.faults tree.old) (T.faults tree.new) (passed (look_in (T.files tree.old)) reader.old (name_steps dir.now names.now))) }
-    ensures files { T.files tree.new ≡ T.files tree.old }
-    ensures around { around (T.entered tree.new) (T.lent tree.new) ≡ around (T.entered tree.old) (T.lent tree.old) }
-    ensures later { T.faults tree.old ≤ T.faults tree.new }
+    ensures { Reads (view T.files T.faults T.entered T.lent) tree.old tree.new (λ look. name_steps dir.now names.now) (λ look named. named ≡ folder_files look dir.now names.now) reader.old reader.new result }
 {
     let mut files = NamedFiles::new(alloc);
     for name in names.items() {
-        if let Err(fault) = read_name(alloc, reader, tree, dir, name, &mut files) {
-            return Err(fault);
-        }
+        read_name(alloc, reader, tree, dir, name, &mut files)?;
     }
     Ok(files)
 }
@@ -171,36 +129,18 @@ fn read_folder<T: Tree>(
     path: &Text,
 ) -> Result<NamedFiles, LoadFault>
     requires { Knows (T.files tree.old) reader.old }
-    ensures named { IfOk result (λ named. IsTold (T.files tree.old) → named ≡ files_as (look_in (T.files tree.old)) path.now Found.Dir) }
-    ensures went { OnOk result (Went (T.files tree.old) (T.faults tree.old) (T.faults tree.new) (folder_steps (look_in (T.files tree.old)) path.now Found.Dir) reader.old reader.new) }
-    ensures cause { IfErr result (Cause (T.files tree.old) (T.faults tree.old) (T.faults tree.new) (passed (look_in (T.files tree.old)) reader.old (folder_steps (look_in (T.files tree.old)) path.now Found.Dir))) }
-    ensures files { T.files tree.new ≡ T.files tree.old }
-    ensures around { around (T.entered tree.new) (T.lent tree.new) ≡ around (T.entered tree.old) (T.lent tree.old) }
-    ensures later { T.faults tree.old ≤ T.faults tree.new }
+    ensures { Reads (view T.files T.faults T.entered T.lent) tree.old tree.new (λ look. folder_steps look path.now Found.Dir) (λ look named. named ≡ files_as look path.now Found.Dir) reader.old reader.new result }
 {
-    let listed = match list_names(alloc, tree, path) {
-        Ok(listed) => listed,
-        Err(fault) => return Err(fault),
-    };
-    let Ok(names) = counted(alloc, &listed) else {
-        return Err(LoadFault::NoMemory);
-    };
-    match read_names(alloc, reader, tree, path, &names) {
-        Ok(files) => Ok(files),
-        Err(fault) => Err(fault),
-    }
+    let listed = list_at(alloc, reader, tree, path)?;
+    let names = counted(alloc, &listed)?;
+    read_names(alloc, reader, tree, path, &names)
 }
 
-fn one(alloc: Global, path: &Text, bytes: Text) -> Result<NamedFiles, LoadFault>
-    ensures ok { IfOk result (λ files. files ≡ record { path = path.now; bytes = bytes } ∷ []) }
-    ensures err { IfErr result (λ fault. fault ≡ LoadFault.NoMemory) }
+fn one(alloc: Global, path: &Text, bytes: Text) -> Result<NamedFiles, NoMemory>
+    ensures { IfOk result (λ files. files ≡ record { path = path.now; bytes = bytes } ∷ []) }
 {
     let mut files = NamedFiles::new(alloc);
-    let Ok(path) = path.copy(alloc) else {
-        return Err(LoadFault::NoMemory);
-    };
-    match files.add(NamedFile { path, bytes }) {
-        Ok(()) => Ok(files),
-        Err(_) => Err(LoadFault::NoMemory),
-    }
+    let path = path.copy(alloc)?;
+    files.add(NamedFile { path, bytes })?;
+    Ok(files)
 }

@@ -2,14 +2,14 @@
 //!
 //! A directory costs O(log n) comparisons of paths for n directories for each line that names it, and its files once. The
 //! way is kept in a list, so that no depth ends the program's own stack.
-ghost use Rattle.std.specs.FinMap as finite;
 ghost use Rattle.std.specs.Prelude.{◌≡◌, ◌≤◌, ◌<◌, ◌∷◌, [], ◌++◌, ◌||◌, false, ℕ, List, Ok, length, IfOk, IfErr, OnOk};
 ghost use Rattle.std.specs.Str.{bytes_eq};
 ghost use Rattle.gv_base.specs.Order.{has_text};
-ghost use Rattle.gv_load.specs.Ahead.{reached_after, ahead_of, dirs_with, IsIndexed, KeepsDirs};
+ghost use Rattle.gv_load.specs.Ahead.{reached_after, ahead_of, dirs_with, IsIndexed, KeepsDirs, HasVisited};
 ghost use Rattle.gv_load.specs.Directories.{steps_of, dir_at, dir_steps};
-ghost use Rattle.gv_load.specs.Causes.{Cause, Knows, Went, IsTold, look_in, around};
-ghost use Rattle.gv_load.specs.Closed.{IsClosed, IsClosedBut, paths_left, HaveSameStacks};
+ghost use Rattle.gv_load.specs.Causes.{Cause, IsTold, Knows, Reads, around, look_in, view};
+ghost use Rattle.gv_load.specs.Closed.{IsClosed, IsClosedBut, paths_left};
+ghost use Rattle.gv_load.specs.PartsRead.{HasReached};
 ghost use Rattle.gv_load.specs.Reader.{Seen};
 ghost use Rattle.gv_load.specs.Layout.{layout};
 ghost use Rattle.gv_load.specs.Reaching.{paths_of, reach_below, reached_by, from_line};
@@ -72,16 +72,7 @@ pub(crate) fn read_dirs<T: Tree>(
 ) -> Result<Reached, LoadFault>
     requires knows { Knows (T.files tree.old) reader.old }
     requires names { names.now ≡ layout }
-    ensures order { IfOk result (λ r. IsTold (T.files tree.old) → r.order ≡ reached_by (dir_at (look_in (T.files tree.old))) [] lines.now) }
-    ensures passed { OnOk result (IsTold (T.files tree.old) → passed (look_in (T.files tree.old)) reader.old (steps_of (look_in (T.files tree.old)) (reached_by (dir_at (look_in (T.files tree.old))) [] lines.now)) ≡ Ok reader.new) }
-    ensures dirs { IfOk result (λ r. IsTold (T.files tree.old) → KeepsDirs (look_in (T.files tree.old)) r) }
-    ensures stacks { IfOk result (λ r. IsTold (T.files tree.old) → HaveSameStacks (finite.get r.dirs) (dir_at (look_in (T.files tree.old))) lines.now) }
-    ensures knows { OnOk result (Knows (T.files tree.old) reader.new) }
-    ensures calm { OnOk result (T.faults tree.new ≡ T.faults tree.old) }
-    ensures cause { IfErr result (Cause (T.files tree.old) (T.faults tree.old) (T.faults tree.new) (passed (look_in (T.files tree.old)) reader.old (steps_of (look_in (T.files tree.old)) (reached_by (dir_at (look_in (T.files tree.old))) [] lines.now)))) }
-    ensures files { T.files tree.new ≡ T.files tree.old }
-    ensures around { around (T.entered tree.new) (T.lent tree.new) ≡ around (T.entered tree.old) (T.lent tree.old) }
-    ensures later { T.faults tree.old ≤ T.faults tree.new }
+    ensures { Reads (view T.files T.faults T.entered T.lent) tree.old tree.new (λ look. steps_of look (reached_by (dir_at look) [] lines.now)) (λ look reached. HasReached look lines.now reached) reader.old reader.new result }
 {
     let mut reached = Reached {
         order: Texts::new(alloc),
@@ -89,10 +80,7 @@ pub(crate) fn read_dirs<T: Tree>(
         dirs: Dirs::new(alloc),
     };
     for line in lines.items() {
-        reached = match read_line(alloc, reader, tree, names, reached, line) {
-            Ok(reached) => reached,
-            Err(fault) => return Err(fault),
-        };
+        reached = read_line(alloc, reader, tree, names, reached, line)?;
     }
     Ok(reached)
 }
@@ -182,24 +170,12 @@ fn visit<T: Tree>(
     requires names { names.now ≡ layout }
     requires indexed { IsIndexed reached }
     requires fresh { has_text reached.order dir ≡ false }
+    ensures reads { Reads (view T.files T.faults T.entered T.lent) tree.old tree.new (λ look. dir_steps look dir) (λ look r. HasVisited (dir_at look) reached dir ahead.old.items ahead.new.items r) reader.old reader.new result }
     ensures order { IfOk result (λ r. r.order ≡ reached.order ++ dir ∷ []) }
-    ensures ahead { OnOk result (IsTold (T.files tree.old) → ahead.new.items ≡ ahead.old.items ++ ahead_of dir (dir_at (look_in (T.files tree.old)) dir)) }
-    ensures dirs { IfOk result (λ r. IsTold (T.files tree.old) → r.dirs ≡ dirs_with reached.dirs dir (dir_at (look_in (T.files tree.old)) dir)) }
     ensures indexed { IfOk result IsIndexed }
-    ensures went { OnOk result (Went (T.files tree.old) (T.faults tree.old) (T.faults tree.new) (dir_steps (look_in (T.files tree.old)) dir) reader.old reader.new) }
-    ensures cause { IfErr result (Cause (T.files tree.old) (T.faults tree.old) (T.faults tree.new) (passed (look_in (T.files tree.old)) reader.old (dir_steps (look_in (T.files tree.old)) dir))) }
-    ensures files { T.files tree.new ≡ T.files tree.old }
-    ensures around { around (T.entered tree.new) (T.lent tree.new) ≡ around (T.entered tree.old) (T.lent tree.old) }
-    ensures later { T.faults tree.old ≤ T.faults tree.new }
 {
-    let files = match read_directory(alloc, reader, tree, names, &dir) {
-        Ok(files) => files,
-        Err(fault) => return Err(fault),
-    };
-    match keep(alloc, reached, dir, files, ahead) {
-        Ok(reached) => Ok(reached),
-        Err(_) => Err(LoadFault::NoMemory),
-    }
+    let files = read_directory(alloc, reader, tree, names, &dir)?;
+    Ok(keep(alloc, reached, dir, files, ahead)?)
 }
 
 // Comes to a path.

@@ -4,11 +4,11 @@
 ghost use Rattle.std.specs.Prelude.{◌≡◌, ◌≤◌, ◌∷◌, [], Ok, Err, Some, length, IfOk, IfErr, OnOk, option_copied, ◌⊎◌};
 ghost use Rattle.std.specs.FinMap as finite;
 ghost use Rattle.gv_base.specs.Outside.{HasAtMost, most_file_bytes};
-ghost use Rattle.gv_load.specs.Causes.{Cause, Knows, Went, IsTold, look_in, around};
+ghost use Rattle.gv_load.specs.Causes.{Cause, IsTold, Knows, Reads, around, look_in, view};
 ghost use Rattle.gv_load.specs.Directories.{bytes_in, bytes_at, text_at};
 ghost use Rattle.gv_load.specs.Entries.{digest_at};
 ghost use Rattle.gv_load.specs.Reader.{Seen, nothing};
-ghost use Rattle.gv_load.specs.Reading.{after_read, after_new, after_list, with_new, with_found, passed, read, need, once};
+ghost use Rattle.gv_load.specs.Reading.{after_read, after_new, after_list, with_new, with_found, read, list, need, once};
 
 use crate::LoadFault;
 use crate::faults::{failed, limit, missing};
@@ -107,39 +107,20 @@ impl Reader {
         if self.get(path.bytes()).is_some() {
             return Ok(());
         }
-        let found = match read_new(self.alloc, tree, path) {
-            Ok(found) => found,
-            Err(fault) => return Err(fault),
-        };
-        let files = match self.count_with(path, &found) {
-            Ok(files) => files,
-            Err(fault) => return Err(fault),
-        };
-        match self.put(path, found, files) {
-            Ok(()) => Ok(()),
-            Err(_) => Err(LoadFault::NoMemory),
-        }
+        let found = read_new(self.alloc, tree, path)?;
+        let files = self.count_with(path, &found)?;
+        Ok(self.put(path, found, files)?)
     }
 
     /// What stands at a path, which is read at most once.
     pub fn read<T: Tree>(&mut self, tree: &mut T, path: &Text) -> Result<Found, LoadFault>
         requires { Knows (T.files tree.old) self.old }
-        ensures found { IfOk result (λ found. IsTold (T.files tree.old) → found ≡ (look_in (T.files tree.old)).found path.now) }
-        ensures went { OnOk result (Went (T.files tree.old) (T.faults tree.old) (T.faults tree.new) (read path.now ∷ []) self.old self.new) }
-        ensures cause { IfErr result (Cause (T.files tree.old) (T.faults tree.old) (T.faults tree.new) (passed (look_in (T.files tree.old)) self.old (read path.now ∷ []))) }
-        ensures files { T.files tree.new ≡ T.files tree.old }
-        ensures around { around (T.entered tree.new) (T.lent tree.new) ≡ around (T.entered tree.old) (T.lent tree.old) }
-        ensures later { T.faults tree.old ≤ T.faults tree.new }
+        ensures { Reads (view T.files T.faults T.entered T.lent) tree.old tree.new (λ look. read path.now ∷ []) (λ look found. found ≡ look.found path.now) self.old self.new result }
     {
-        if let Err(fault) = self.learn(tree, path) {
-            return Err(fault);
-        }
+        self.learn(tree, path)?;
         let alloc = self.alloc;
         match self.get(path.bytes()) {
-            Some(found) => match copy_found(alloc, found) {
-                Ok(found) => Ok(found),
-                Err(_) => Err(LoadFault::NoMemory),
-            },
+            Some(found) => Ok(copy_found(alloc, found)?),
             None => Ok(Found::Absent),
         }
     }
@@ -147,36 +128,24 @@ impl Reader {
     /// The bytes of a path, none where it is no file.
     pub fn bytes<T: Tree>(&mut self, tree: &mut T, path: &Text) -> Result<Option<Text>, LoadFault>
         requires { Knows (T.files tree.old) self.old }
-        ensures bytes { IfOk result (λ bytes. IsTold (T.files tree.old) → bytes ≡ bytes_in ((look_in (T.files tree.old)).found path.now)) }
-        ensures went { OnOk result (Went (T.files tree.old) (T.faults tree.old) (T.faults tree.new) (read path.now ∷ []) self.old self.new) }
-        ensures cause { IfErr result (Cause (T.files tree.old) (T.faults tree.old) (T.faults tree.new) (passed (look_in (T.files tree.old)) self.old (read path.now ∷ []))) }
-        ensures files { T.files tree.new ≡ T.files tree.old }
-        ensures around { around (T.entered tree.new) (T.lent tree.new) ≡ around (T.entered tree.old) (T.lent tree.old) }
-        ensures later { T.faults tree.old ≤ T.faults tree.new }
+        ensures { Reads (view T.files T.faults T.entered T.lent) tree.old tree.new (λ look. read path.now ∷ []) (λ look bytes. bytes ≡ bytes_in (look.found path.now)) self.old self.new result }
     {
-        match self.read(tree, path) {
-            Ok(Found::File(text)) => Ok(Some(text)),
-            Ok(Found::Dir) => Ok(None),
-            Ok(Found::Absent) => Ok(None),
-            Err(fault) => Err(fault),
+        match self.read(tree, path)? {
+            Found::File(text) => Ok(Some(text)),
+            Found::Dir => Ok(None),
+            Found::Absent => Ok(None),
         }
     }
 
     /// The bytes of a path that has to be a file.
     pub fn need<T: Tree>(&mut self, tree: &mut T, path: &Text) -> Result<Text, LoadFault>
         requires { Knows (T.files tree.old) self.old }
-        ensures bytes { IfOk result (λ bytes. IsTold (T.files tree.old) → bytes ≡ text_at (look_in (T.files tree.old)) path.now) }
-        ensures went { OnOk result (Went (T.files tree.old) (T.faults tree.old) (T.faults tree.new) (need path.now ∷ []) self.old self.new) }
-        ensures cause { IfErr result (Cause (T.files tree.old) (T.faults tree.old) (T.faults tree.new) (passed (look_in (T.files tree.old)) self.old (need path.now ∷ []))) }
-        ensures files { T.files tree.new ≡ T.files tree.old }
-        ensures around { around (T.entered tree.new) (T.lent tree.new) ≡ around (T.entered tree.old) (T.lent tree.old) }
-        ensures later { T.faults tree.old ≤ T.faults tree.new }
+        ensures { Reads (view T.files T.faults T.entered T.lent) tree.old tree.new (λ look. need path.now ∷ []) (λ look bytes. bytes ≡ text_at look path.now) self.old self.new result }
     {
-        match self.read(tree, path) {
-            Ok(Found::File(text)) => Ok(text),
-            Ok(Found::Dir) => Err(missing(self.alloc, path)),
-            Ok(Found::Absent) => Err(missing(self.alloc, path)),
-            Err(fault) => Err(fault),
+        match self.read(tree, path)? {
+            Found::File(text) => Ok(text),
+            Found::Dir => Err(missing(self.alloc, path)),
+            Found::Absent => Err(missing(self.alloc, path)),
         }
     }
 
@@ -201,14 +170,8 @@ impl Reader {
         ensures later { T.faults tree.old ≤ T.faults tree.new }
         ensures calm { OnOk result (T.faults tree.new ≡ T.faults tree.old) }
     {
-        let found = match read_new(self.alloc, tree, path) {
-            Ok(found) => found,
-            Err(fault) => return Err(fault),
-        };
-        let files = match self.count_with(path, &found) {
-            Ok(files) => files,
-            Err(fault) => return Err(fault),
-        };
+        let found = read_new(self.alloc, tree, path)?;
+        let files = self.count_with(path, &found)?;
         self.found = files;
         Ok(found)
     }
@@ -216,20 +179,11 @@ impl Reader {
     /// What stands at a path that no later step reads: it is counted, and isn't kept.
     pub fn read_once<T: Tree>(&mut self, tree: &mut T, path: &Text) -> Result<Found, LoadFault>
         requires { Knows (T.files tree.old) self.old }
-        ensures found { IfOk result (λ found. IsTold (T.files tree.old) → found ≡ (look_in (T.files tree.old)).found path.now) }
-        ensures went { OnOk result (Went (T.files tree.old) (T.faults tree.old) (T.faults tree.new) (once path.now ∷ []) self.old self.new) }
-        ensures cause { IfErr result (Cause (T.files tree.old) (T.faults tree.old) (T.faults tree.new) (passed (look_in (T.files tree.old)) self.old (once path.now ∷ []))) }
-        ensures files { T.files tree.new ≡ T.files tree.old }
-        ensures around { around (T.entered tree.new) (T.lent tree.new) ≡ around (T.entered tree.old) (T.lent tree.old) }
-        ensures later { T.faults tree.old ≤ T.faults tree.new }
+        ensures { Reads (view T.files T.faults T.entered T.lent) tree.old tree.new (λ look. once path.now ∷ []) (λ look found. found ≡ look.found path.now) self.old self.new result }
     {
-        match self.known_at(path) {
-            Ok(Some(found)) => Ok(found),
-            Ok(None) => match self.count(tree, path) {
-                Ok(found) => Ok(found),
-                Err(fault) => Err(fault),
-            },
-            Err(_) => Err(LoadFault::NoMemory),
+        match self.known_at(path)? {
+            Some(found) => Ok(found),
+            None => self.count(tree, path),
         }
     }
 
@@ -240,18 +194,12 @@ impl Reader {
         path: &Text,
     ) -> Result<Option<Text>, LoadFault>
         requires { Knows (T.files tree.old) self.old }
-        ensures bytes { IfOk result (λ bytes. IsTold (T.files tree.old) → bytes ≡ bytes_at (look_in (T.files tree.old)) path.now) }
-        ensures went { OnOk result (Went (T.files tree.old) (T.faults tree.old) (T.faults tree.new) (once path.now ∷ []) self.old self.new) }
-        ensures cause { IfErr result (Cause (T.files tree.old) (T.faults tree.old) (T.faults tree.new) (passed (look_in (T.files tree.old)) self.old (once path.now ∷ []))) }
-        ensures files { T.files tree.new ≡ T.files tree.old }
-        ensures around { around (T.entered tree.new) (T.lent tree.new) ≡ around (T.entered tree.old) (T.lent tree.old) }
-        ensures later { T.faults tree.old ≤ T.faults tree.new }
+        ensures { Reads (view T.files T.faults T.entered T.lent) tree.old tree.new (λ look. once path.now ∷ []) (λ look bytes. bytes ≡ bytes_at look path.now) self.old self.new result }
     {
-        match self.read_once(tree, path) {
-            Ok(Found::File(text)) => Ok(Some(text)),
-            Ok(Found::Dir) => Ok(None),
-            Ok(Found::Absent) => Ok(None),
-            Err(fault) => Err(fault),
+        match self.read_once(tree, path)? {
+            Found::File(text) => Ok(Some(text)),
+            Found::Dir => Ok(None),
+            Found::Absent => Ok(None),
         }
     }
 
@@ -262,29 +210,31 @@ impl Reader {
         path: &Text,
     ) -> Result<Option<[u8; 16]>, LoadFault>
         requires { Knows (T.files tree.old) self.old }
-        ensures digest { IfOk result (λ digest. IsTold (T.files tree.old) → digest ≡ digest_at (look_in (T.files tree.old)) path.now) }
-        ensures went { OnOk result (Went (T.files tree.old) (T.faults tree.old) (T.faults tree.new) (once path.now ∷ []) self.old self.new) }
-        ensures cause { IfErr result (Cause (T.files tree.old) (T.faults tree.old) (T.faults tree.new) (passed (look_in (T.files tree.old)) self.old (once path.now ∷ []))) }
-        ensures files { T.files tree.new ≡ T.files tree.old }
-        ensures around { around (T.entered tree.new) (T.lent tree.new) ≡ around (T.entered tree.old) (T.lent tree.old) }
-        ensures later { T.faults tree.old ≤ T.faults tree.new }
+        ensures { Reads (view T.files T.faults T.entered T.lent) tree.old tree.new (λ look. once path.now ∷ []) (λ look digest. digest ≡ digest_at look path.now) self.old self.new result }
     {
-        match self.read_once(tree, path) {
-            Ok(Found::File(text)) => Ok(Some(digest_of(text.bytes()))),
-            Ok(Found::Dir) => Ok(None),
-            Ok(Found::Absent) => Ok(None),
-            Err(fault) => Err(fault),
+        match self.read_once(tree, path)? {
+            Found::File(text) => Ok(Some(digest_of(text.bytes()))),
+            Found::Dir => Ok(None),
+            Found::Absent => Ok(None),
         }
     }
 }
 
-/// The names below a path, in byte order.
-#[tactic(auto, using(crate::proofs::Readings::told_names))]
-pub(crate) fn list_names<T: Tree>(
+/// The names below a path, in byte order. The reader is as before.
+pub(crate) fn list_at<T: Tree>(
     alloc: Global,
+    reader: &Reader,
     tree: &mut T,
     path: &Text,
 ) -> Result<Texts, LoadFault>
+    requires { Knows (T.files tree.old) reader.now }
+    ensures { Reads (view T.files T.faults T.entered T.lent) tree.old tree.new (λ look. list path.now ∷ []) (λ look value. value ≡ look.names path.now) reader.now reader.now result }
+{
+    list_names(alloc, tree, path)
+}
+
+#[tactic(auto, using(crate::proofs::Readings::told_names))]
+fn list_names<T: Tree>(alloc: Global, tree: &mut T, path: &Text) -> Result<Texts, LoadFault>
     ensures names { IfOk result (λ names. IsTold (T.files tree.old) → names ≡ (look_in (T.files tree.old)).names path.now) }
     ensures passed { (seen : Seen) → OnOk result (after_list seen path.now ≡ Ok seen) }
     ensures cause { (seen : Seen) → IfErr result (Cause (T.files tree.old) (T.faults tree.old) (T.faults tree.new) (after_list seen path.now)) }

@@ -1,54 +1,35 @@
-use Rattle.std.proofs.Common.{◌≡◌, ◌∷◌, [], ◌+◌, drop, refl, subst, ◌∙◌, arith}
-use Rattle.std.specs.Prelude.{Option, List, ℕ}
-use Rattle.gv_base.specs.FileMap.{FileMap}
-use Rattle.gv_load.specs.DigestWords.{digests_with}
-use Rattle.gv_load.specs.Entries.{eclass_digest}
-use Rattle.gv_load.specs.Layout.{layout}
-use Rattle.gv_load.specs.Causes.{IsTold, look_in}
+use Rattle.std.proofs.Common.{◌≡◌, ◌∷◌, [], ◌++◌, ◌+◌, ◌≤◌, List, ℕ, drop, take, length, ap, subst, arith, ◌∙◌, sym}
+use Rattle.std.proofs.lemmas.List.{take_all}
+use Rattle.gv_load.specs.DigestWords.{KeepsDigests}
 use Rattle.gv_load.specs.Order.{eclass_steps}
-use Rattle.gv_load.specs.Paths.{eclass_path}
-use Rattle.gv_load.specs.Reading.{once}
 use Rattle.gv_load.proofs.EclassLemmas.{taken, keeps_more, keeps_nothing}
-use Rattle.gv_load.proofs.Passing.{next_item, next_went, here_refused, moved_went, moved_cause}
+use Rattle.gv_load.proofs.Passing.{all_gone, amid_end, amid_ended, amid_next, amid_start, faulted, next_item}
 use Rattle.gv_load.proofs.eclasses.read_eclasses.Goals as goal
 
-pub returns-in-Err-clause-cause : goal.returns-in-Err-clause-cause
-returns-in-Err-clause-cause g c =
-    let told = g.T.Tree.files c.args.tree.now in
-    let inv = c.loop-name.invariant in
+pub loop-name-init : goal.loop-name-init
+loop-name-init g c = amid_start c.requires.knows (λ look. keeps_nothing look c.new-digests.result c.new-digests.ensures)
+
+pub returns-in_err-read_eclass : goal.returns-in_err-read_eclass
+returns-in_err-read_eclass g c =
     let names = c.args.names.now in
     let i = c.loop-name.name-index in
-    let name = c.name-item.result in
-    let next : drop i names ≡ name ∷ drop (i + 1) names = rw c.items-name-items.ensures at (next_item c.items-name-items.result.now i name (omega arith) c.name-item.is) in
-    here_refused told _ _ _ c.args.reader.now c.loop-name.reader (λ (n : List ℕ). once (eclass_path n) ∷ []) eclass_steps names (drop i names) (drop (i + 1) names) name _ (λ y ys. refl) next inv.calm inv.rest
-    (moved_cause (g.T.Tree.files c.loop-name.tree) told inv.files layout layout refl _ _ (λ l look. once (eclass_path name) ∷ []) c.loop-name.reader _ c.in-Err.ensures.cause)
-
-pub loop-name-init : goal.loop-name-init
-loop-name-init g c = record {
-  value = λ t. keeps_nothing (look_in (g.T.Tree.files c.args.tree.now)) c.new-digests.result c.new-digests.ensures;
-  rest = λ t. refl;
-  knows = c.requires.knows;
-  files = refl;
-  around = refl;
-  calm = refl;
-}
+    let next : drop i names ≡ c.name-item.result ∷ drop (i + 1) names = rw c.items-name-items.ensures at (next_item c.items-name-items.result.now i c.name-item.result (omega arith) c.name-item.is) in
+    rw (faulted c.from_residual.result c.from_residual.ensures.1) (amid_ended (λ look. eclass_steps (drop (i + 1) names)) c.loop-name.invariant c.in_err-read_eclass.ensures (λ look. ap eclass_steps next))
 
 pub loop-name-preserved : goal.loop-name-preserved
 loop-name-preserved g c =
-    let told = g.T.Tree.files c.args.tree.now in
-    let look = look_in told in
-    let inv = c.loop-name.invariant in
     let names = c.args.names.now in
     let i = c.loop-name.name-index in
     let name = c.name-item.result in
     let next : drop i names ≡ name ∷ drop (i + 1) names = rw c.items-name-items.ensures at (next_item c.items-name-items.result.now i name (omega arith) c.name-item.is) in
-    let went = moved_went (g.T.Tree.files c.loop-name.tree) told inv.files layout layout refl _ _ (λ l look. once (eclass_path name) ∷ []) c.loop-name.reader c.read_eclass.new.reader c.in_default.ensures.went in
-    record {
-      value = λ t. keeps_more look _ _ c.loop-name.digests c.read_eclass.new.digests name (rw c.items-name-items.ensures at (taken c.items-name-items.result.now i name (omega arith) c.name-item.is))
-          (subst (λ (o : Option FileMap). IsTold o → c.read_eclass.new.digests ≡ digests_with c.loop-name.digests name (eclass_digest (look_in o) name)) inv.files c.in_default.ensures.value t) (inv.value t);
-      rest = next_went told 0 _ _ c.args.reader.now c.loop-name.reader c.read_eclass.new.reader (λ (n : List ℕ). once (eclass_path n) ∷ []) eclass_steps names (drop i names) (drop (i + 1) names) name (λ y ys. refl) next inv.rest went;
-      knows = went.knows;
-      files = c.in_default.ensures.files ∙ inv.files;
-      around = c.in_default.ensures.around ∙ inv.around;
-      calm = went.calm ∙ inv.calm;
-    }
+    let more : take (i + 1) names ≡ take i names ++ name ∷ [] = rw c.items-name-items.ensures at (taken c.items-name-items.result.now i name (omega arith) c.name-item.is) in
+    amid_next c.loop-name.invariant c.in_ok-read_eclass.ensures (λ look. ap eclass_steps next) (λ look keeps here. keeps_more look _ _ c.loop-name.digests c.read_eclass.new.digests name more here keeps)
+
+pub returns : goal.returns
+returns g c =
+    let names = c.args.names.now in
+    let i = c.loop-name.name-index in
+    let past : length c.items-name-items.result.now ≤ i = omega arith in
+    let gone : drop i names ≡ [] = all_gone c.items-name-items.result.now names i c.items-name-items.ensures past in
+    let all : take i names ≡ names = ap (λ (ns : List (List ℕ)). take i ns) (sym c.items-name-items.ensures) ∙ take_all i c.items-name-items.result.now past ∙ c.items-name-items.ensures in
+    amid_end c.loop-name.invariant (λ look. ap eclass_steps gone) (λ look keeps. subst (λ (ns : List (List ℕ)). KeepsDigests look ns c.loop-name.digests) all keeps)

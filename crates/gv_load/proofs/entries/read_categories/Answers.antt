@@ -1,42 +1,27 @@
-use Rattle.std.proofs.Common.{◌≡◌, ◌∷◌, ◌++◌, ◌+◌, drop, refl, subst, ◌∙◌, arith}
-use Rattle.std.specs.Prelude.{Option}
-use Rattle.gv_base.specs.FileMap.{FileMap}
+use Rattle.std.proofs.Common.{◌≡◌, ◌∷◌, [], ◌+◌, ◌≤◌, drop, length, refl, ap, arith}
 use Rattle.gv_load.specs.Entries.{reads_of, all_reads}
-use Rattle.gv_load.specs.Layout.{layout}
-use Rattle.gv_load.specs.Causes.{IsTold, look_in}
-use Rattle.gv_load.specs.Order.{category_steps, categories_steps}
-use Rattle.gv_load.proofs.Passing.{next_item, next_went, here_refused, moved_went, moved_cause}
-use Rattle.gv_load.proofs.PfLemmas.{more_values}
+use Rattle.gv_load.specs.Order.{categories_steps}
+use Rattle.gv_load.proofs.Passing.{all_gone, amid_end, amid_ended, amid_next, faulted, last_values, more_values, next_item}
 use Rattle.gv_load.proofs.entries.read_categories.Goals as goal
 
-pub returns-in-Err-clause-cause : goal.returns-in-Err-clause-cause
-returns-in-Err-clause-cause g c =
-    let told = g.T.Tree.files c.args.tree.now in
-    let look = look_in told in
-    let inv = c.loop-category.invariant in
+pub returns-in_err-read_category : goal.returns-in_err-read_category
+returns-in_err-read_category g c =
     let all = c.args.categories.now in
     let i = c.loop-category.category-index in
-    let category = c.category-item.result in
-    let next : drop i all ≡ category ∷ drop (i + 1) all = rw c.items-category-items.ensures at (next_item c.items-category-items.result.now i category (omega arith) c.category-item.is) in
-    here_refused told _ _ _ c.args.reader.now c.loop-category.reader (category_steps look) (categories_steps look) all (drop i all) (drop (i + 1) all) category _ (λ y ys. refl) next inv.calm inv.rest
-    (moved_cause (g.T.Tree.files c.loop-category.tree) told inv.files layout layout refl _ _ (λ names l. category_steps l category) c.loop-category.reader _ c.in-Err.ensures.cause)
+    let next : drop i all ≡ c.category-item.result ∷ drop (i + 1) all = rw c.items-category-items.ensures at (next_item c.items-category-items.result.now i c.category-item.result (omega arith) c.category-item.is) in
+    rw (faulted c.from_residual.result c.from_residual.ensures.1) (amid_ended (λ look. categories_steps look (drop (i + 1) all)) c.loop-category.invariant c.in_err-read_category.ensures (λ look. ap (categories_steps look) next))
 
 pub loop-category-preserved : goal.loop-category-preserved
 loop-category-preserved g c =
-    let told = g.T.Tree.files c.args.tree.now in
-    let look = look_in told in
-    let inv = c.loop-category.invariant in
     let all = c.args.categories.now in
     let i = c.loop-category.category-index in
-    let category = c.category-item.result in
-    let next : drop i all ≡ category ∷ drop (i + 1) all = rw c.items-category-items.ensures at (next_item c.items-category-items.result.now i category (omega arith) c.category-item.is) in
-    let went = moved_went (g.T.Tree.files c.loop-category.tree) told inv.files layout layout refl _ _ (λ names l. category_steps l category) c.loop-category.reader c.read_category.new.reader c.in_default.ensures.went in
-    record {
-      value = λ t. more_values (reads_of look) (all_reads look) c.loop-category.reads c.read_category.new.reads _ (drop i all) (drop (i + 1) all) category (λ y ys. refl) next (inv.value t)
-          (subst (λ (o : Option FileMap). IsTold o → c.read_category.new.reads ≡ c.loop-category.reads ++ reads_of (look_in o) category) inv.files c.in_default.ensures.value t);
-      rest = next_went told 0 _ _ c.args.reader.now c.loop-category.reader c.read_category.new.reader (category_steps look) (categories_steps look) all (drop i all) (drop (i + 1) all) category (λ y ys. refl) next inv.rest went;
-      knows = went.knows;
-      files = c.in_default.ensures.files ∙ inv.files;
-      around = c.in_default.ensures.around ∙ inv.around;
-      calm = went.calm ∙ inv.calm;
-    }
+    let next : drop i all ≡ c.category-item.result ∷ drop (i + 1) all = rw c.items-category-items.ensures at (next_item c.items-category-items.result.now i c.category-item.result (omega arith) c.category-item.is) in
+    amid_next c.loop-category.invariant c.in_ok-read_category.ensures (λ look. ap (categories_steps look) next) (λ look so_far here. more_values (reads_of look) (all_reads look) c.loop-category.reads c.read_category.new.reads _ (drop i all) (drop (i + 1) all) c.category-item.result (λ y ys. refl) next so_far here)
+
+pub returns : goal.returns
+returns g c =
+    let all = c.args.categories.now in
+    let i = c.loop-category.category-index in
+    let past : length c.items-category-items.result.now ≤ i = omega arith in
+    let gone : drop i all ≡ [] = all_gone c.items-category-items.result.now all i c.items-category-items.ensures past in
+    amid_end c.loop-category.invariant (λ look. ap (categories_steps look) gone) (λ look so_far. last_values (all_reads look) c.loop-category.reads _ (drop i all) refl gone so_far)

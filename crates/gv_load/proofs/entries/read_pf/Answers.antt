@@ -1,23 +1,18 @@
-use Rattle.std.proofs.Common.{◌∷◌, [], refl}
+use Rattle.std.proofs.Common.{◌∷◌, [], refl, ◌∙◌}
 use Rattle.gv_load.specs.Categories.{name_of}
-use Rattle.gv_load.specs.Layout.{layout}
-use Rattle.gv_load.specs.Order.{entry_steps}
 use Rattle.gv_load.specs.Paths.{ebuild_path}
 use Rattle.gv_load.specs.Reading.{once}
-use Rattle.gv_load.proofs.Passing.{front_cause, back_cause, moved_cause}
+use Rattle.gv_load.proofs.Passing.{ended_first, ended_then, faulted, no_memory, read_then}
 use Rattle.gv_load.proofs.entries.read_pf.Goals as goal
 
-pub returns-in-Err-clause-cause : goal.returns-in-Err-clause-cause
-returns-in-Err-clause-cause g c =
-    let told = g.T.Tree.files c.args.tree.now in
-    let entry = entry_steps c.args.listed.now.keys c.args.category.now c.args.pf.now in
-    let ebuild = once (ebuild_path c.args.category.now (name_of c.args.pf.now) c.args.pf.now) ∷ [] in
-    front_cause told _ _ c.args.reader.now entry ebuild _ c.in-Err.ensures.cause
+pub returns-in_err-entry : goal.returns-in_err-entry
+returns-in_err-entry g c = rw (faulted c.from_residual.result c.from_residual.ensures.1) (ended_first (λ look. once (ebuild_path c.args.category.now (name_of c.args.pf.now) c.args.pf.now) ∷ []) c.in_err-entry.ensures (λ look. refl))
 
-pub returns-in-Err-read_ebuild-clause-cause : goal.returns-in-Err-read_ebuild-clause-cause
-returns-in-Err-read_ebuild-clause-cause g c =
-    let told = g.T.Tree.files c.args.tree.now in
-    let entry = entry_steps c.args.listed.now.keys c.args.category.now c.args.pf.now in
-    let ebuild = once (ebuild_path c.args.category.now (name_of c.args.pf.now) c.args.pf.now) ∷ [] in
-    back_cause told _ _ _ c.args.reader.now c.read_listed.new.reader entry ebuild _ c.in-Ok.ensures.went
-    (moved_cause (g.T.Tree.files c.read_listed.new.tree) told c.in-Ok.ensures.files layout layout refl _ _ (λ names look. ebuild) c.read_listed.new.reader _ c.in-Err-read_ebuild.ensures.cause)
+pub returns-in_err-ebuild : goal.returns-in_err-ebuild
+returns-in_err-ebuild g c = rw (faulted c.from_residual-in_err-ebuild.result c.from_residual-in_err-ebuild.ensures.1) (ended_then c.in_ok-entry.ensures c.in_err-ebuild.ensures (λ look is. refl))
+
+pub returns-in_err-pf_read : goal.returns-in_err-pf_read
+returns-in_err-pf_read g c = rw (faulted c.from_residual-in_err-pf_read.result c.from_residual-in_err-pf_read.ensures.1) (no_memory (c.in_ok-ebuild.ensures.same ∙ c.in_ok-entry.ensures.same))
+
+pub returns : goal.returns
+returns g c = read_then c.in_ok-entry.ensures c.in_ok-ebuild.ensures (λ look entry ebuild. refl) (λ look entry ebuild. c.in_ok-pf_read.ensures ∙ rw (entry, ebuild) refl)

@@ -1,27 +1,21 @@
-use Rattle.std.specs.FinMap.{get}
-use Rattle.gv_load.specs.Directories.{steps_of, dir_at}
-use Rattle.gv_load.specs.Causes.{look_in}
-use Rattle.gv_load.specs.Order.{reached, stack_steps}
-use Rattle.gv_load.proofs.Passing.{front_cause}
-use Rattle.gv_load.proofs.ProfileLemmas.{profiled_is, stacks_cause, stacks_went}
+use Rattle.std.proofs.Common.{refl}
+use Rattle.gv_load.specs.Directories.{dir_at}
+use Rattle.gv_load.specs.Order.{stack_steps}
+use Rattle.gv_load.proofs.Passing.{ended_first, faulted, no_memory}
+use Rattle.gv_load.proofs.ProfileLemmas.{profiled_is, stacks_ended, stacks_read}
 use Rattle.gv_load.proofs.line_profiles.read_profiles.Goals as goal
 
-pub returns-in-Err-clause-cause : goal.returns-in-Err-clause-cause
-returns-in-Err-clause-cause g c =
-    let told = g.T.Tree.files c.args.tree.now in
-    let look = look_in told in
-    let lines = c.args.lines.now in
-    front_cause told _ _ c.args.reader.now (steps_of look (reached look lines)) (stack_steps (dir_at look) lines) _ c.in-Err.ensures.cause
+pub returns-in_err-reached : goal.returns-in_err-reached
+returns-in_err-reached g c = rw (faulted c.from_residual.result c.from_residual.ensures.1) (ended_first (λ look. stack_steps (dir_at look) c.args.lines.now) c.in_err-reached.ensures (λ look. refl))
 
-pub returns-in-Err-fold_lines-clause-cause : goal.returns-in-Err-fold_lines-clause-cause
-returns-in-Err-fold_lines-clause-cause g c =
-    stacks_cause (g.T.Tree.files c.args.tree.now) _ _ c.args.reader.now c.read_dirs.new.reader (get c.in-Ok.reached.dirs) c.args.lines.now _ c.in-Ok.ensures.stacks c.in-Err-fold_lines.ensures.cause c.in-Ok.ensures.passed c.in-Ok.ensures.calm
+pub returns-in_err-folds : goal.returns-in_err-folds
+returns-in_err-folds g c = rw (faulted c.from_residual-in_err-folds.result c.from_residual-in_err-folds.ensures.1) (stacks_ended _ c.in_ok-reached.ensures c.in_err-folds.ensures.cause)
 
-pub returns-in-Ok-with_notes-clause-went : goal.returns-in-Ok-with_notes-clause-went
-returns-in-Ok-with_notes-clause-went g c =
-    stacks_went (g.T.Tree.files c.args.tree.now) _ _ c.args.reader.now c.read_dirs.new.reader (get c.in-Ok.reached.dirs) c.args.lines.now c.in-Ok.ensures.stacks c.in-Ok-fold_lines.ensures.passed c.in-Ok.ensures.knows c.in-Ok.ensures.passed c.in-Ok.ensures.calm
+pub returns-in_err-with_notes : goal.returns-in_err-with_notes
+returns-in_err-with_notes g c = rw (faulted c.from_residual-in_err-with_notes.result c.from_residual-in_err-with_notes.ensures.1) (no_memory c.in_ok-reached.ensures.same)
 
-pub returns-in-Ok-with_notes-clause-value : goal.returns-in-Ok-with_notes-clause-value
-returns-in-Ok-with_notes-clause-value g c = λ t.
-    profiled_is (look_in (g.T.Tree.files c.args.tree.now)) c.in-Ok.reached c.args.masks.now c.args.lines.now c.in-Ok-fold_lines.folds _ (c.in-Ok.ensures.dirs t) (c.in-Ok.ensures.stacks t) (c.in-Ok.ensures.order t)
-    c.in-Ok-fold_lines.ensures.profiles c.in-Ok-fold_lines.ensures.errors c.in-Ok-with_notes.ensures
+pub returns : goal.returns
+returns g c =
+    let folds = c.in_ok-folds in
+    stacks_read c.in_ok-reached.ensures folds.ensures.passed
+    (λ look is. profiled_is look c.in_ok-reached.reached c.args.masks.now c.args.lines.now folds.folds _ is.dirs is.stacks is.order folds.ensures.profiles folds.ensures.errors c.in_ok-with_notes.ensures)

@@ -1,35 +1,31 @@
-use Rattle.std.proofs.Common.{◌∷◌, [], refl, ◌∙◌}
+use Rattle.std.proofs.Common.{◌∷◌, List, refl, sym, ap, ◌∙◌}
 use Rattle.gv_load.specs.Directories.{file_steps}
-use Rattle.gv_load.specs.Causes.{look_in}
-use Rattle.gv_load.specs.Paths.{desc_path, categories_path, mask_path}
-use Rattle.gv_load.specs.PartsRead.{top_paths}
-use Rattle.gv_load.specs.Reading.{need}
-use Rattle.gv_load.proofs.Passing.{front_cause, back_cause, both_went, moved_went, moved_cause}
+use Rattle.gv_load.specs.Look.{Look}
+use Rattle.gv_load.specs.Reading.{Step, need}
+use Rattle.gv_load.specs.declared.lists.TopPaths.{TopPaths}
+use Rattle.gv_load.proofs.Passing.{ended_behind, ended_first, ended_front, ended_then, faulted, no_memory, read_both, read_then}
 use Rattle.gv_load.proofs.lists.read_lists.Goals as goal
 
-pub returns-in-Err-clause-cause : goal.returns-in-Err-clause-cause
-returns-in-Err-clause-cause g c =
-    let told = g.T.Tree.files c.args.tree.now in
-    let look = look_in told in
-    front_cause told _ _ c.args.reader.now (need desc_path ∷ []) (need categories_path ∷ file_steps look mask_path) _ (moved_cause told told refl c.args.paths.now top_paths c.requires.paths _ _ (λ paths look. need paths.desc ∷ []) c.args.reader.now _ c.in-Err.ensures.cause)
+abbrev steps : Look → TopPaths → List Step
+steps look paths = need paths.desc ∷ need paths.categories ∷ file_steps look paths.masks
 
-pub returns-in-Err-need-clause-cause : goal.returns-in-Err-need-clause-cause
-returns-in-Err-need-clause-cause g c =
-    let told = g.T.Tree.files c.args.tree.now in
-    let look = look_in told in
-    back_cause told _ _ _ c.args.reader.now c.need.new.self (need desc_path ∷ []) (need categories_path ∷ file_steps look mask_path) _ (moved_went told told refl c.args.paths.now top_paths c.requires.paths _ _ (λ paths look. need paths.desc ∷ []) c.args.reader.now c.need.new.self c.in-Ok.ensures.went)
-    (front_cause told _ _ c.need.new.self (need categories_path ∷ []) (file_steps look mask_path) _ (moved_cause (g.T.Tree.files c.need.new.tree) told c.in-Ok.ensures.files c.args.paths.now top_paths c.requires.paths _ _ (λ paths look. need paths.categories ∷ []) c.need.new.self _ c.in-Err-need.ensures.cause))
+pub returns-in_err-desc : goal.returns-in_err-desc
+returns-in_err-desc g c = rw (faulted c.from_residual.result c.from_residual.ensures.1) (ended_first (λ look. need c.args.paths.now.categories ∷ file_steps look c.args.paths.now.masks) c.in_err-desc.ensures (λ look. ap (steps look) (sym c.requires.paths)))
 
-pub returns-in-Err-read_files-clause-cause : goal.returns-in-Err-read_files-clause-cause
-returns-in-Err-read_files-clause-cause g c =
-    let told = g.T.Tree.files c.args.tree.now in
-    let look = look_in told in
-    back_cause told _ _ _ c.args.reader.now c.need.new.self (need desc_path ∷ []) (need categories_path ∷ file_steps look mask_path) _ (moved_went told told refl c.args.paths.now top_paths c.requires.paths _ _ (λ paths look. need paths.desc ∷ []) c.args.reader.now c.need.new.self c.in-Ok.ensures.went)
-    (back_cause told _ _ _ c.need.new.self c.need-2.new.self (need categories_path ∷ []) (file_steps look mask_path) _ (moved_went (g.T.Tree.files c.need.new.tree) told c.in-Ok.ensures.files c.args.paths.now top_paths c.requires.paths _ _ (λ paths look. need paths.categories ∷ []) c.need.new.self c.need-2.new.self c.in-Ok-need.ensures.went) (moved_cause (g.T.Tree.files c.need-2.new.tree) told (c.in-Ok-need.ensures.files ∙ c.in-Ok.ensures.files) c.args.paths.now top_paths c.requires.paths _ _ (λ paths look. file_steps look paths.masks) c.need-2.new.self _ c.in-Err-read_files.ensures.cause))
+pub returns-in_err-categories : goal.returns-in_err-categories
+returns-in_err-categories g c =
+    let rest = ended_front (λ look. file_steps look c.args.paths.now.masks) c.in_err-categories.ensures in
+    rw (faulted c.from_residual-in_err-categories.result c.from_residual-in_err-categories.ensures.1) (ended_then c.in_ok-desc.ensures rest (λ look is. ap (steps look) (sym c.requires.paths)))
 
-pub returns-in-Ok-lists_with-clause-went : goal.returns-in-Ok-lists_with-clause-went
-returns-in-Ok-lists_with-clause-went g c =
-    let told = g.T.Tree.files c.args.tree.now in
-    let look = look_in told in
-    both_went told _ _ _ c.args.reader.now c.need.new.self c.read_files.new.reader (need desc_path ∷ []) (need categories_path ∷ file_steps look mask_path) (moved_went told told refl c.args.paths.now top_paths c.requires.paths _ _ (λ paths look. need paths.desc ∷ []) c.args.reader.now c.need.new.self c.in-Ok.ensures.went)
-    (both_went told _ _ _ c.need.new.self c.need-2.new.self c.read_files.new.reader (need categories_path ∷ []) (file_steps look mask_path) (moved_went (g.T.Tree.files c.need.new.tree) told c.in-Ok.ensures.files c.args.paths.now top_paths c.requires.paths _ _ (λ paths look. need paths.categories ∷ []) c.need.new.self c.need-2.new.self c.in-Ok-need.ensures.went) (moved_went (g.T.Tree.files c.need-2.new.tree) told (c.in-Ok-need.ensures.files ∙ c.in-Ok.ensures.files) c.args.paths.now top_paths c.requires.paths _ _ (λ paths look. file_steps look paths.masks) c.need-2.new.self c.read_files.new.reader c.in-Ok-read_files.ensures.went))
+pub returns-in_err-masks : goal.returns-in_err-masks
+returns-in_err-masks g c =
+    let rest = ended_behind c.in_ok-categories.ensures c.in_err-masks.ensures in
+    rw (faulted c.from_residual-in_err-masks.result c.from_residual-in_err-masks.ensures.1) (ended_then c.in_ok-desc.ensures rest (λ look is. ap (steps look) (sym c.requires.paths)))
+
+pub returns-in_err-lists_with : goal.returns-in_err-lists_with
+returns-in_err-lists_with g c = rw (faulted c.from_residual-in_err-lists_with.result c.from_residual-in_err-lists_with.ensures.1) (no_memory (c.in_ok-masks.ensures.same ∙ c.in_ok-categories.ensures.same ∙ c.in_ok-desc.ensures.same))
+
+pub returns : goal.returns
+returns g c =
+    let rest = read_both c.in_ok-categories.ensures c.in_ok-masks.ensures in
+    read_then c.in_ok-desc.ensures rest (λ look desc more. ap (steps look) (sym c.requires.paths)) (λ look desc more. c.in_ok-lists_with.ensures ∙ rw (desc, more.0, more.1, c.requires.paths) refl)

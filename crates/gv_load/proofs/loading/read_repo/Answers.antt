@@ -1,52 +1,29 @@
-use Rattle.std.proofs.Common.{◌≡◌, ◌++◌, refl, subst, ◌∙◌}
-use Rattle.std.specs.Prelude.{Option}
-use Rattle.gv_base.specs.FileMap.{FileMap}
-use Rattle.gv_load.specs.Freshness.{all_kept}
-use Rattle.gv_load.specs.Layout.{layout}
-use Rattle.gv_load.specs.Causes.{IsTold, look_in}
-use Rattle.gv_load.specs.Order.{list_steps, packages_steps, profiles_steps}
-use Rattle.gv_load.specs.PartsRead.{profiled_of}
-use Rattle.gv_load.proofs.LoadLemmas.{all_went, all_refused, lists_refused, repo_is}
-use Rattle.gv_load.proofs.Passing.{front_cause, back_cause, both_went, moved_went, moved_cause}
+use Rattle.std.proofs.Common.{◌++◌, ◌∙◌}
+use Rattle.gv_load.specs.Order.{categories, desc_lines, packages_steps, profiles_steps}
+use Rattle.gv_load.proofs.LoadLemmas.{first_steps, repo_is, steps_are}
+use Rattle.gv_load.proofs.Passing.{ended_behind, ended_first, ended_front, ended_then, faulted, no_memory, read_both, read_then}
 use Rattle.gv_load.proofs.loading.read_repo.Goals as goal
 
-pub returns-in-Err-clause-cause : goal.returns-in-Err-clause-cause
-returns-in-Err-clause-cause g c =
-    let told = g.T.Tree.files c.args.tree.now in
-    lists_refused told _ _ c.args.reader.now _ c.in-Err.ensures.cause
+pub returns-in_err-lists-clause-reads : goal.returns-in_err-lists-clause-reads
+returns-in_err-lists-clause-reads g c = rw (faulted c.from_residual.result c.from_residual.ensures.1) (ended_first (λ look. profiles_steps look (desc_lines look) ++ packages_steps look (categories look)) c.in_err-lists.ensures (λ look. first_steps look))
 
-pub returns-in-Err-read_profiles-clause-cause : goal.returns-in-Err-read_profiles-clause-cause
-returns-in-Err-read_profiles-clause-cause g c =
-    let told = g.T.Tree.files c.args.tree.now in
-    let look = look_in told in
-    let lists = c.in-Ok.lists in
-    all_refused told _ _ c.args.reader.now lists _ c.in-Ok.ensures.value
-    (back_cause told _ _ _ c.args.reader.now c.read_lists.new.reader (list_steps look) (profiles_steps look lists.lines ++ packages_steps look lists.categories) _ c.in-Ok.ensures.went
-    (front_cause told _ _ c.read_lists.new.reader (profiles_steps look lists.lines) (packages_steps look lists.categories) _ (moved_cause (g.T.Tree.files c.read_lists.new.tree) told c.in-Ok.ensures.files layout layout refl _ _ (λ l look. profiles_steps look lists.lines) c.read_lists.new.reader _ c.in-Err-read_profiles.ensures.cause)))
+pub returns-in_err-profiled-clause-reads : goal.returns-in_err-profiled-clause-reads
+returns-in_err-profiled-clause-reads g c =
+    let lists = c.in_ok-lists.lists in
+    let rest = ended_front (λ look. packages_steps look lists.categories) c.in_err-profiled.ensures in
+    rw (faulted c.from_residual-in_err-profiled.result c.from_residual-in_err-profiled.ensures.1) (ended_then c.in_ok-lists.ensures rest (λ look is. steps_are look lists is))
 
-pub returns-in-Err-read_packages-clause-cause : goal.returns-in-Err-read_packages-clause-cause
-returns-in-Err-read_packages-clause-cause g c =
-    let told = g.T.Tree.files c.args.tree.now in
-    let look = look_in told in
-    let lists = c.in-Ok.lists in
-    all_refused told _ _ c.args.reader.now lists _ c.in-Ok.ensures.value
-    (back_cause told _ _ _ c.args.reader.now c.read_lists.new.reader (list_steps look) (profiles_steps look lists.lines ++ packages_steps look lists.categories) _ c.in-Ok.ensures.went
-    (back_cause told _ _ _ c.read_lists.new.reader c.read_profiles.new.reader (profiles_steps look lists.lines) (packages_steps look lists.categories) _ (moved_went (g.T.Tree.files c.read_lists.new.tree) told c.in-Ok.ensures.files layout layout refl _ _ (λ l look. profiles_steps look lists.lines) c.read_lists.new.reader c.read_profiles.new.reader c.in-Ok-read_profiles.ensures.went) (moved_cause (g.T.Tree.files c.read_profiles.new.tree) told (c.in-Ok-read_profiles.ensures.files ∙ c.in-Ok.ensures.files) layout layout refl _ _ (λ l look. packages_steps look lists.categories) c.read_profiles.new.reader _ c.in-Err-read_packages.ensures.cause)))
+pub returns-in_err-kepts-clause-reads : goal.returns-in_err-kepts-clause-reads
+returns-in_err-kepts-clause-reads g c =
+    let rest = ended_behind c.in_ok-profiled.ensures c.in_err-kepts.ensures in
+    rw (faulted c.from_residual-in_err-kepts.result c.from_residual-in_err-kepts.ensures.1) (ended_then c.in_ok-lists.ensures rest (λ look is. steps_are look c.in_ok-lists.lists is))
 
-pub returns-in-Ok-repo_with-clause-went : goal.returns-in-Ok-repo_with-clause-went
-returns-in-Ok-repo_with-clause-went g c =
-    let told = g.T.Tree.files c.args.tree.now in
-    let look = look_in told in
-    let lists = c.in-Ok.lists in
-    all_went told _ _ c.args.reader.now c.read_packages.new.reader lists c.in-Ok.ensures.value
-    (both_went told _ _ _ c.args.reader.now c.read_lists.new.reader c.read_packages.new.reader (list_steps look) (profiles_steps look lists.lines ++ packages_steps look lists.categories) c.in-Ok.ensures.went
-    (both_went told _ _ _ c.read_lists.new.reader c.read_profiles.new.reader c.read_packages.new.reader (profiles_steps look lists.lines) (packages_steps look lists.categories) (moved_went (g.T.Tree.files c.read_lists.new.tree) told c.in-Ok.ensures.files layout layout refl _ _ (λ l look. profiles_steps look lists.lines) c.read_lists.new.reader c.read_profiles.new.reader c.in-Ok-read_profiles.ensures.went) (moved_went (g.T.Tree.files c.read_profiles.new.tree) told (c.in-Ok-read_profiles.ensures.files ∙ c.in-Ok.ensures.files) layout layout refl _ _ (λ l look. packages_steps look lists.categories) c.read_profiles.new.reader c.read_packages.new.reader c.in-Ok-read_packages.ensures.went)))
+pub returns-in_err-repo_with-clause-reads : goal.returns-in_err-repo_with-clause-reads
+returns-in_err-repo_with-clause-reads g c = rw (faulted c.from_residual-in_err-repo_with.result c.from_residual-in_err-repo_with.ensures.1) (no_memory (c.in_ok-kepts.ensures.same ∙ c.in_ok-profiled.ensures.same ∙ c.in_ok-lists.ensures.same))
 
-pub returns-in-Ok-repo_with-clause-value : goal.returns-in-Ok-repo_with-clause-value
-returns-in-Ok-repo_with-clause-value g c =
-    let told = g.T.Tree.files c.args.tree.now in
-    let look = look_in told in
-    let lists = c.in-Ok.lists in
-    λ t. repo_is look lists c.in-Ok-read_profiles.profiled c.in-Ok-read_packages.kepts _ c.in-Ok-repo_with.ensures.repo (c.in-Ok.ensures.value t)
-    (subst (λ (o : Option FileMap). IsTold o → c.in-Ok-read_profiles.profiled ≡ profiled_of (look_in o) lists.masks lists.lines) c.in-Ok.ensures.files c.in-Ok-read_profiles.ensures.value t)
-    (subst (λ (o : Option FileMap). IsTold o → c.in-Ok-read_packages.kepts ≡ all_kept (look_in o) lists.categories) (c.in-Ok-read_profiles.ensures.files ∙ c.in-Ok.ensures.files) c.in-Ok-read_packages.ensures.value t)
+pub returns-clause-reads : goal.returns-clause-reads
+returns-clause-reads g c =
+    let lists = c.in_ok-lists.lists in
+    let rest = read_both c.in_ok-profiled.ensures c.in_ok-kepts.ensures in
+    read_then c.in_ok-lists.ensures rest (λ look is more. steps_are look lists is)
+    (λ look is more. repo_is look lists c.in_ok-profiled.profiled c.in_ok-kepts.kepts _ c.in_ok-repo_with.ensures.repo is more.0 more.1)

@@ -1,53 +1,26 @@
-use Rattle.std.proofs.Common.{◌≡◌, refl, subst, ap, sym, ◌∙◌, map}
-use Rattle.std.specs.Prelude.{Option}
-use Rattle.gv_base.specs.FileMap.{FileMap}
-use Rattle.gv_load.specs.DigestWords.{KeepsDigests}
+use Rattle.std.proofs.Common.{◌++◌, List, ℕ, refl, ap, sym, ◌∙◌, map}
 use Rattle.gv_load.specs.Entries.{all_reads, eclass_digest, eclass_names}
 use Rattle.gv_load.specs.Freshness.{pf_kept}
-use Rattle.gv_load.specs.Layout.{layout}
-use Rattle.gv_load.specs.Causes.{IsTold, look_in}
 use Rattle.gv_load.specs.Order.{categories_steps, eclass_steps}
-use Rattle.gv_load.proofs.DirLemmas.{same_went, same_refused}
-use Rattle.gv_load.proofs.Passing.{front_cause, back_cause, both_went, moved_went, moved_cause}
+use Rattle.gv_load.proofs.Passing.{ended_first, ended_then, faulted, no_memory, read_then}
 use Rattle.gv_load.proofs.packages.read_packages.Goals as goal
 
-pub returns-in-Err-clause-cause : goal.returns-in-Err-clause-cause
-returns-in-Err-clause-cause g c =
-    let told = g.T.Tree.files c.args.tree.now in
-    let look = look_in told in
-    let all = c.args.categories.now in
-    front_cause told _ _ c.args.reader.now (categories_steps look all) (eclass_steps (eclass_names (all_reads look all))) _ c.in-Err.ensures.cause
+pub returns-in_err-reads : goal.returns-in_err-reads
+returns-in_err-reads g c = rw (faulted c.from_residual.result c.from_residual.ensures.1) (ended_first (λ look. eclass_steps (eclass_names (all_reads look c.args.categories.now))) c.in_err-reads.ensures (λ look. refl))
 
-pub returns-in-Err-read_eclasses-clause-cause : goal.returns-in-Err-read_eclasses-clause-cause
-returns-in-Err-read_eclasses-clause-cause g c =
-    let told = g.T.Tree.files c.args.tree.now in
-    let look = look_in told in
-    let all = c.args.categories.now in
-    let names = c.in-Ok-eclass_names.names in
-    let are : IsTold told → eclass_steps (eclass_names (all_reads look all)) ≡ eclass_steps names =
-    λ t. ap eclass_steps (sym (c.in-Ok-eclass_names.ensures.value ∙ ap eclass_names (c.in-Ok.ensures.value t))) in
-    back_cause told _ _ _ c.args.reader.now c.read_categories.new.reader (categories_steps look all) (eclass_steps (eclass_names (all_reads look all))) _ c.in-Ok.ensures.went
-    (same_refused told _ _ c.read_categories.new.reader (eclass_steps names) _ _ are
-    (moved_cause (g.T.Tree.files c.read_categories.new.tree) told c.in-Ok.ensures.files layout layout refl _ _ (λ l look. eclass_steps names) c.read_categories.new.reader _ c.in-Err-read_eclasses.ensures.cause))
+pub returns-in_err-names : goal.returns-in_err-names
+returns-in_err-names g c = rw (faulted c.from_residual-in_err-names.result c.from_residual-in_err-names.ensures.1) (no_memory c.in_ok-reads.ensures.same)
 
-pub returns-in-Ok-judge_all-clause-went : goal.returns-in-Ok-judge_all-clause-went
-returns-in-Ok-judge_all-clause-went g c =
-    let told = g.T.Tree.files c.args.tree.now in
-    let look = look_in told in
-    let all = c.args.categories.now in
-    let names = c.in-Ok-eclass_names.names in
-    let are : IsTold told → eclass_steps (eclass_names (all_reads look all)) ≡ eclass_steps names =
-    λ t. ap eclass_steps (sym (c.in-Ok-eclass_names.ensures.value ∙ ap eclass_names (c.in-Ok.ensures.value t))) in
-    both_went told _ _ _ c.args.reader.now c.read_categories.new.reader c.read_eclasses.new.reader (categories_steps look all) (eclass_steps (eclass_names (all_reads look all))) c.in-Ok.ensures.went
-    (same_went told _ _ c.read_categories.new.reader c.read_eclasses.new.reader (eclass_steps names) _ are
-    (moved_went (g.T.Tree.files c.read_categories.new.tree) told c.in-Ok.ensures.files layout layout refl _ _ (λ l look. eclass_steps names) c.read_categories.new.reader c.read_eclasses.new.reader c.in-Ok-read_eclasses.ensures.went))
+pub returns-in_err-digests : goal.returns-in_err-digests
+returns-in_err-digests g c =
+    rw (faulted c.from_residual-in_err-digests.result c.from_residual-in_err-digests.ensures.1) (ended_then c.in_ok-reads.ensures c.in_err-digests.ensures
+    (λ look is. ap (λ (ns : List (List ℕ)). categories_steps look c.args.categories.now ++ eclass_steps ns) (sym (c.in_ok-names.ensures.value ∙ ap eclass_names is))))
 
-pub returns-in-Ok-judge_all-clause-value : goal.returns-in-Ok-judge_all-clause-value
-returns-in-Ok-judge_all-clause-value g c =
-    let told = g.T.Tree.files c.args.tree.now in
-    let look = look_in told in
-    let names = c.in-Ok-eclass_names.names in
-    let digests = c.in-Ok-read_eclasses.digests in
-    λ t. c.in-Ok-judge_all.ensures.there look names
-    (subst (λ (o : Option FileMap). IsTold o → KeepsDigests (look_in o) names digests) c.in-Ok.ensures.files c.in-Ok-read_eclasses.ensures.value t) c.in-Ok-eclass_names.ensures.named
-    ∙ ap (map (pf_kept (eclass_digest look))) (c.in-Ok.ensures.value t)
+pub returns-in_err-judge_all : goal.returns-in_err-judge_all
+returns-in_err-judge_all g c = rw (faulted c.from_residual-in_err-judge_all.result c.from_residual-in_err-judge_all.ensures.1) (no_memory (c.in_ok-digests.ensures.same ∙ c.in_ok-reads.ensures.same))
+
+pub returns : goal.returns
+returns g c =
+    read_then c.in_ok-reads.ensures c.in_ok-digests.ensures
+    (λ look is keeps. ap (λ (ns : List (List ℕ)). categories_steps look c.args.categories.now ++ eclass_steps ns) (sym (c.in_ok-names.ensures.value ∙ ap eclass_names is)))
+    (λ look is keeps. c.in_ok-judge_all.ensures.there look c.in_ok-names.names keeps c.in_ok-names.ensures.named ∙ ap (map (pf_kept (eclass_digest look))) is)

@@ -1,9 +1,13 @@
-use Rattle.gv_load.proofs.Onces.{found_before, once_went}
+use Rattle.std.proofs.Common.{sym, ◌∙◌}
+use Rattle.gv_load.specs.Causes.{view}
+use Rattle.gv_load.proofs.Onces.{counted_once, known_once}
 use Rattle.gv_load.proofs.reader.Reader.read_once.Goals as goal
 
-pub returns-in-Ok-Some-clause-found : goal.returns-in-Ok-Some-clause-found
-returns-in-Ok-Some-clause-found g c = found_before (g.T.Tree.files c.args.tree.now) c.args.self.now c.args.path.now c.in-Ok-Some.found c.requires (rw c.in-Ok-Some.field-0-is at c.in-Ok-Some.ensures)
+pub returns-in-Some : goal.returns-in-Some
+returns-in-Some g c = known_once _ c.args.self.now c.args.path.now _ c.requires (sym c.in-Some.is ∙ c.in_ok-found.ensures)
 
-pub returns-in-Ok-clause-went : goal.returns-in-Ok-clause-went
-returns-in-Ok-clause-went g c =
-    once_went (g.T.Tree.files c.args.tree.now) _ _ c.args.self.now c.count.new.self c.args.path.now c.in-Ok.found c.requires (rw c.in-Ok-None.field-0-is at c.in-Ok-None.ensures) c.in-Ok.ensures.known c.in-Ok.ensures.passed c.in-Ok.ensures.calm
+pub returns-in-None : goal.returns-in-None
+returns-in-None g c =
+    let said = c.count.ensures in
+    counted_once (view g.T.Tree.files g.T.Tree.faults g.T.Tree.entered g.T.Tree.lent) c.args.tree.now c.count.new.tree c.args.self.now c.count.new.self c.args.path.now c.count.result c.requires
+    (sym c.in-None.is ∙ c.in_ok-found.ensures) said.found said.known said.passed said.cause said.files said.around said.later said.calm
