@@ -4,7 +4,8 @@
     rooms.py
 
 Reads the table under "From a rule to its rooms": the module and the names of a definition, the public call and its clauses,
-the files of code, and the tests. Prints a line for each that isn't there, with its rule, and last how many rules and names
+the files of code, and the tests, which stand in a crate of tests, in files that begin with the library's name, or in the
+crate itself. Prints a line for each that isn't there, with its rule, and last how many rules and names
 were looked at. Exit status 1 where one is missing, where a row has an empty cell, or where a section of rules has no row.
 """
 import os
@@ -27,6 +28,16 @@ def code_of(crate):
     """The text of each file of a crate's code by its name."""
     folder = os.path.join(TOP, "crates", crate, "src")
     return {name[:-3]: read(folder, name) for name in os.listdir(folder) if name.endswith(".rt")} if os.path.isdir(folder) else {}
+
+
+def tests_of(crate):
+    """The text of each file with tests of a crate: its own, and those of the crates of tests that have its name in front."""
+    own = crate.removeprefix("gv_")
+    texts = list(code_of(crate).values())
+    for other in sorted(os.listdir(os.path.join(TOP, "crates"))):
+        if other.endswith("_tests"):
+            texts += [text for name, text in code_of(other).items() if name == own or name.startswith(own + "_")]
+    return texts
 
 
 def contract(code, call):
@@ -63,7 +74,7 @@ def file_is(crate, file, _):
 
 
 def test_is(crate, test, _):
-    return [] if any(re.search(rf"#\[test\]\n\s*fn {test}\(", text) for text in code_of(crate).values()) else [test]
+    return [] if any(re.search(rf"#\[test\]\n\s*fn {test}\(", text) for text in tests_of(crate)) else [test]
 
 
 COLUMNS = (("definition", definition_is), ("call", call_is), ("code", file_is), ("test", test_is))

@@ -18,8 +18,6 @@ mod index;
 mod known;
 mod laws;
 mod reader;
-#[cfg(test)]
-mod tests;
 mod writing;
 
 pub use claim::{Claim, read_answer, write_answer};

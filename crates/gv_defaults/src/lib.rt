@@ -28,6 +28,3 @@ mod vars;
 pub use defaults::{DefaultsRead, read_defaults};
 pub use laws::{incremental_law, parts_law, pieces_law};
 pub use vars::{Setting, Vars};
-
-#[cfg(test)]
-mod tests;

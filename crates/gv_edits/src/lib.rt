@@ -26,8 +26,6 @@ mod listing;
 mod looking;
 mod pending;
 mod script;
-#[cfg(test)]
-mod tests;
 
 pub use command::Command;
 pub use edit::{Edit, EditFault, MAX_PATH_BYTES};

@@ -7,8 +7,6 @@
 
 mod encoding;
 mod laws;
-#[cfg(test)]
-mod tests;
 
 pub use encoding::encode;
 pub use laws::encoding_law;

@@ -19,8 +19,6 @@ mod entry_read;
 mod entry_values;
 mod laws;
 mod queries;
-#[cfg(test)]
-mod tests;
 
 pub use digests::digest_of;
 pub use entry::{Body, Eclass, Eclasses, Entry, EntryError, EntryErrors};

@@ -16,8 +16,6 @@ mod open_groups;
 mod printing;
 mod reading;
 mod required;
-#[cfg(test)]
-mod tests;
 mod token;
 
 pub use dep::{DepExpr, DepTree};

@@ -19,8 +19,6 @@ mod lit;
 mod lit_lists;
 mod nodes;
 mod reading;
-#[cfg(test)]
-mod tests;
 
 pub use bits::Bits;
 pub use bytes::gate_bytes;

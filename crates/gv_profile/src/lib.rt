@@ -29,8 +29,6 @@ mod notes;
 mod parent_files;
 mod paths;
 mod profiles;
-#[cfg(test)]
-mod tests;
 mod walking;
 
 pub use bad_lines::{dir_notes, mask_notes};

@@ -11,8 +11,6 @@ mod checker;
 mod laws;
 mod log;
 mod marks;
-#[cfg(test)]
-mod tests;
 
 pub use checker::{Verdict, check, proves_least, proves_none};
 pub use laws::{least_bits_law, rule_law, step_law};

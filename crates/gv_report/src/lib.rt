@@ -10,11 +10,9 @@
 //! - `options`, `selecting`: which reports are selected.
 //! - `line`, `json`: the two texts of a report. O(bytes). `printable`: which reports may be written as JSON.
 //! - `emitter`: the text of the reports that a stored test takes.
-//! - `caller`: a text as the layers above make it.
 //! - `laws`: what the definitions of the order and of lines come to.
 #![tactic(auto)]
 
-mod caller;
 mod distinct;
 mod emitter;
 mod json;
@@ -27,8 +25,6 @@ mod printable;
 mod report;
 mod selecting;
 mod telling;
-#[cfg(test)]
-mod tests;
 
 pub use distinct::ordered;
 pub use emitter::Emitter;

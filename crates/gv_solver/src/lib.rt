@@ -26,8 +26,6 @@ mod search;
 mod sets;
 mod solver;
 mod steps;
-#[cfg(test)]
-mod tests;
 
 pub use answer::Answer;
 pub use laws::{backed_law, kept_bound_law};

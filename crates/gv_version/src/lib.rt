@@ -16,6 +16,3 @@ pub use laws::{begins_law, form_law, order_law, same_but_revision_law, split_pf_
 pub use names::{is_category, is_flag, is_keyword, is_package, is_slot, split_pf};
 pub use order::{begins, compare, same_but_revision};
 pub use version::{Version, VersionFault, read_version};
-
-#[cfg(test)]
-mod tests;
