@@ -33,55 +33,64 @@ or_assoc : (a b c : Bool) → ((a || b) || c) ≡ (a || (b || c))
 or_assoc true b c = refl
 or_assoc false b c = refl
 
--- Keys of any type, by their bytes.
-module _ {K : Type 0} (bytes : K → List ℕ) where
-  abbrev has : List K → (flag : List ℕ) → Bool
-  has keys flag = list_any (λ key. bytes_eq flag (bytes key)) keys
-
-  abbrev same_key : K → K → Bool
-  same_key a b = bytes_eq (bytes a) (bytes b)
+-- Keys of any type, and what is asked of them; keys that are the same answer alike.
+module _ {K Q : Type 0} (is : Q → K → Bool) (same_key : K → K → Bool) (alike : (q : Q) (a b : K) → same_key a b ≡ true → is q a ≡ is q b) where
+  abbrev has : List K → Q → Bool
+  has keys q = list_any (is q) keys
 
   -- where a key is there already, what it stands for is there
-  module _ (flag : List ℕ) (key : K) where
-    already : (ks : List K) → list_any (same_key key) ks ≡ true → bytes_eq flag (bytes key) ≡ true → has ks flag ≡ true
+  module _ (q : Q) (key : K) where
+    already : (ks : List K) → list_any (same_key key) ks ≡ true → is q key ≡ true → has ks q ≡ true
     already [] h i = absurd (false≢true h)
     already (k ∷ ks) h i = by (same_key key k) refl h (already ks)
       where
-        by : (b : Bool) → same_key key k ≡ b → (b || list_any (same_key key) ks) ≡ true → (list_any (same_key key) ks ≡ true → bytes_eq flag (bytes key) ≡ true → has ks flag ≡ true) → (bytes_eq flag (bytes k) || has ks flag) ≡ true
-        by true e j later = rw (ap (bytes_eq flag) (sym (same_text (bytes key) (bytes k) (sym e))) ∙ i) refl
-        by false e j later = or_true (bytes_eq flag (bytes k)) (later j i)
+        by : (b : Bool) → same_key key k ≡ b → (b || list_any (same_key key) ks) ≡ true → (list_any (same_key key) ks ≡ true → is q key ≡ true → has ks q ≡ true) → (is q k || has ks q) ≡ true
+        by true e j later = rw (sym (alike q key k e) ∙ i) refl
+        by false e j later = or_true (is q k) (later j i)
           where
             or_true : (b : Bool) {c : Bool} → c ≡ true → (b || c) ≡ true
             or_true true e = refl
             or_true false e = e
 
-    one_more_key : (ks : List K) → has (insert_key same_key ks key) flag ≡ (has ks flag || bytes_eq flag (bytes key))
-    one_more_key ks = by (list_any (same_key key) ks) refl (bytes_eq flag (bytes key)) refl (already ks)
+    pub one_more_key : (ks : List K) → has (insert_key same_key ks key) q ≡ (has ks q || is q key)
+    one_more_key ks = by (list_any (same_key key) ks) refl (is q key) refl (already ks)
       where
-        by : (b : Bool) → list_any (same_key key) ks ≡ b → (c : Bool) → bytes_eq flag (bytes key) ≡ c → (list_any (same_key key) ks ≡ true → bytes_eq flag (bytes key) ≡ true → has ks flag ≡ true)
-            → has (if b then ks else ks ++ key ∷ []) flag ≡ (has ks flag || bytes_eq flag (bytes key))
+        by : (b : Bool) → list_any (same_key key) ks ≡ b → (c : Bool) → is q key ≡ c → (list_any (same_key key) ks ≡ true → is q key ≡ true → has ks q ≡ true)
+            → has (if b then ks else ks ++ key ∷ []) q ≡ (has ks q || is q key)
         by true e true f there = rw (f, there e f) refl
-        by true e false f there = rw f (sym (or_false (has ks flag)))
+        by true e false f there = rw f (sym (or_false (has ks q)))
           where
             or_false : (b : Bool) → (b || false) ≡ b
             or_false true = refl
             or_false false = refl
-        by false e c f there = any_last (λ k. bytes_eq flag (bytes k)) ks key
+        by false e c f there = any_last (is q) ks key
 
     -- one more item of a list, whose key it is
-    one_more : {X : Type 0} (test : X → Bool) (es fs : List K) (xs : List X) (i : ℕ) (x : X) → i < length xs → x ≡ get_or xs i x → bytes_eq flag (bytes key) ≡ test x → fs ≡ insert_key same_key es key
-        → (whole : Bool) → (has es flag || list_any test (drop i xs)) ≡ whole → (has fs flag || list_any test (drop (i + 1) xs)) ≡ whole
-    one_more test es fs xs i x lt is tells more whole on =
-        ap (λ ks. has ks flag || list_any test (drop (i + 1) xs)) more
-        ∙ (ap (λ b. b || list_any test (drop (i + 1) xs)) (one_more_key es ∙ ap (λ b. has es flag || b) tells)
-        ∙ (or_assoc (has es flag) (test x) (list_any test (drop (i + 1) xs))
-        ∙ (sym (ap (λ l. has es flag || list_any test l) (drop_here xs x i lt is)) ∙ on)))
+    one_more : {X : Type 0} (test : X → Bool) (es fs : List K) (xs : List X) (i : ℕ) (x : X) → i < length xs → x ≡ get_or xs i x → is q key ≡ test x → fs ≡ insert_key same_key es key
+        → (whole : Bool) → (has es q || list_any test (drop i xs)) ≡ whole → (has fs q || list_any test (drop (i + 1) xs)) ≡ whole
+    one_more test es fs xs i x lt here tells more whole on =
+        ap (λ ks. has ks q || list_any test (drop (i + 1) xs)) more
+        ∙ (ap (λ b. b || list_any test (drop (i + 1) xs)) (one_more_key es ∙ ap (λ b. has es q || b) tells)
+        ∙ (or_assoc (has es q) (test x) (list_any test (drop (i + 1) xs))
+        ∙ (sym (ap (λ l. has es q || list_any test l) (drop_here xs x i lt here)) ∙ on)))
+
+-- an item further, where what is held is told with it
+pub any_further : {X : Type 0} (test : X → Bool) (before now : Bool) (xs : List X) (i : ℕ) (x : X) → i < length xs → x ≡ get_or xs i x → now ≡ (before || test x)
+    → (whole : Bool) → (before || list_any test (drop i xs)) ≡ whole → (now || list_any test (drop (i + 1) xs)) ≡ whole
+any_further test before now xs i x lt here more whole on =
+    ap (λ b. b || list_any test (drop (i + 1) xs)) more
+    ∙ (or_assoc before (test x) (list_any test (drop (i + 1) xs))
+    ∙ (sym (ap (λ l. before || list_any test l) (drop_here xs x i lt here)) ∙ on))
+
+-- texts are asked for byte by byte
+text_alike : {K : Type 0} (bytes : K → List ℕ) (q : List ℕ) (a b : K) → bytes_eq (bytes a) (bytes b) ≡ true → bytes_eq q (bytes a) ≡ bytes_eq q (bytes b)
+text_alike bytes q a b e = ap (bytes_eq q) (same_text (bytes a) (bytes b) (sym e))
 
 -- one more rule
 pub one_more_rule : (es fs : List (Bor (List ℕ))) (rules : List Rule) (i : ℕ) (r : Rule) (key : Bor (List ℕ)) → i < length rules → r ≡ get_or rules i r → key.now ≡ r.flag → fs ≡ insert_key key_eq es key
     → (flag : List ℕ) (whole : Bool) → (has_flag es flag || list_any (names_flag flag) (drop i rules)) ≡ whole → (has_flag fs flag || list_any (names_flag flag) (drop (i + 1) rules)) ≡ whole
 one_more_rule es fs rules i r key lt is named more flag =
-    one_more (λ (k : Bor (List ℕ)). k.now) flag key (names_flag flag) es fs rules i r lt is (ap (bytes_eq flag) named ∙ flipped flag r.flag) more
+    one_more (λ q (k : Bor (List ℕ)). bytes_eq q k.now) key_eq (text_alike (λ (k : Bor (List ℕ)). k.now)) flag key (names_flag flag) es fs rules i r lt is (ap (bytes_eq flag) named ∙ flipped flag r.flag) more
 
 abbrev owned_eq : Bytes → Bytes → Bool
 owned_eq a b = bytes_eq a.items b.items
@@ -90,4 +99,4 @@ owned_eq a b = bytes_eq a.items b.items
 pub one_more_flag : (es fs : List Bytes) (flags : List (List ℕ)) (i : ℕ) (f : List ℕ) (key : Bytes) → i < length flags → f ≡ get_or flags i f → key.items ≡ f → fs ≡ insert_key owned_eq es key
     → (flag : List ℕ) (whole : Bool) → (has_owned es flag || has_text (drop i flags) flag) ≡ whole → (has_owned fs flag || has_text (drop (i + 1) flags) flag) ≡ whole
 one_more_flag es fs flags i f key lt is named more flag =
-    one_more (λ (k : Bytes). k.items) flag key (bytes_eq flag) es fs flags i f lt is (ap (bytes_eq flag) named) more
+    one_more (λ q (k : Bytes). bytes_eq q k.items) owned_eq (text_alike (λ (k : Bytes). k.items)) flag key (bytes_eq flag) es fs flags i f lt is (ap (bytes_eq flag) named) more

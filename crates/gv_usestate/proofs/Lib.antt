@@ -2,4 +2,5 @@ mod Expanded
 mod FlagMap
 mod RulesAtPlaces
 mod FlagSetLemmas
+mod NamedLemmas
 mod KindLaw

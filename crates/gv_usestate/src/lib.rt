@@ -6,6 +6,7 @@
 //! - `sources`: whether a flag is effective, source by source, without a list of the effective flags.
 //! - `flags`: that list.
 //! - `restricted`: where stable restrictions apply.
+//! - `named_pkgs`: the packages that atoms of rules name.
 //! - `pkg_in_profile`: a package in a profile at a level, and which rules apply to it.
 //! - `states`: the state of a flag, by the rules that name it and no others.
 //! - `profile_states`: a profile with these rules in a hash map and its own effective flags in a hash set, for many flags of many
@@ -20,6 +21,7 @@
 #![tactic(auto)]
 
 mod flags;
+mod named_pkgs;
 mod pkg_in_profile;
 mod profile_states;
 mod restricted;

@@ -1,8 +1,11 @@
 //! A package in a profile at a level, and which rules apply to it there. Whether stable restrictions apply is found where a
-//! rule first rests on it, in O(the package's keywords), and once.
+//! rule first rests on it, in O(the package's keywords), and once; so is whether an atom of the profile's rules names it, in a
+//! look-up by hash.
 ghost use Rattle.std.specs.Prelude.{◌≡◌};
 ghost use Rattle.gv_facts.specs.States.{applies, is_restricted};
+ghost use Rattle.gv_usestate.specs.NamedPkgs.{is_named};
 
+use crate::named_pkgs::NamedPkgs;
 use crate::restricted::is_restricted;
 use gv_facts::{Level, Pkg, Profile, Rule, matches_pkg};
 use std::marker::Model;
@@ -15,18 +18,21 @@ pub struct PkgInProfile<'a> {
     level: Level,
     // Whether stable restrictions apply, where that was asked.
     restricted: Option<bool>,
+    // Whether an atom of the profile's rules names the package, where that was asked.
+    named: Option<bool>,
 }
 
 impl<'a> Model for PkgInProfile<'a> {
     ghost use Rattle.std.specs.Prelude.{◌≡◌, IfSome};
     ghost use Rattle.gv_facts.specs.States.{is_restricted};
+    ghost use Rattle.gv_usestate.specs.NamedPkgs.{is_named};
     ghost use Rattle.gv_usestate.specs.PkgInProfile.{PkgInProfile as Seen};
 
     ghost Value = { Seen };
 
     ghost view = { λ p. record { pkg = p.pkg.now; profile = p.profile.now; level = p.level } };
 
-    ghost invariant = { λ p. IfSome p.restricted (λ b. b ≡ is_restricted p.pkg.now p.profile.now p.level) };
+    ghost invariant = { λ p. (IfSome p.restricted (λ b. b ≡ is_restricted p.pkg.now p.profile.now p.level)) × (IfSome p.named (λ b. b ≡ is_named p.profile.now.rules p.pkg.now)) };
 }
 
 impl<'a> PkgInProfile<'a> {
@@ -39,6 +45,7 @@ impl<'a> PkgInProfile<'a> {
             profile,
             level,
             restricted: None,
+            named: None,
         }
     }
 
@@ -60,6 +67,22 @@ impl<'a> PkgInProfile<'a> {
                 let restricted = is_restricted(self.pkg, self.profile, self.level);
                 self.restricted = Some(restricted);
                 restricted
+            }
+        }
+    }
+
+    /// Whether an atom of a rule of the profile has the package's category and name.
+    pub(crate) fn is_named(&mut self, named: &NamedPkgs<'_>) -> bool
+        requires { named.now ≡ self.old.profile.rules }
+        ensures value { result ≡ is_named self.old.profile.rules self.old.pkg }
+        ensures same { self.new ≡ self.old }
+    {
+        match self.named {
+            Some(is_named) => is_named,
+            None => {
+                let is_named = named.has(self.pkg);
+                self.named = Some(is_named);
+                is_named
             }
         }
     }

@@ -1,15 +1,17 @@
 //! The state of a flag (PMS chapter 5).
-ghost use Rattle.std.specs.Prelude.{◌≡◌, true, false, fold, if◌then◌else◌};
+ghost use Rattle.std.specs.Prelude.{◌≡◌, true, false, filter, fold, if◌then◌else◌};
 ghost use Rattle.gv_facts.specs.Effective.{is_effective};
 ghost use Rattle.gv_facts.specs.States.{has_effect, is_restricted, is_same, state};
 ghost use Rattle.gv_facts.specs.declared.rules.Effect.TheVariants.{Force, Mask};
+ghost use Rattle.gv_facts.specs.declared.kinds.FlagState.TheVariants.{Free, Off, On};
 ghost use Rattle.gv_usestate.specs.FlagPlaces.{AreRulesOf};
+ghost use Rattle.gv_usestate.specs.NamedPkgs.{is_general, is_named};
 ghost use Rattle.gv_usestate.specs.RulesInTurn.{behind_at};
 
 use crate::pkg_in_profile::PkgInProfile;
 use crate::sources::is_effective;
 use gv_base::Text;
-use gv_facts::{Effect, FlagState, Level, Pkg, Profile, Rule};
+use gv_facts::{Effect, FlagState, Level, Pkg, Profile, Rule, Rules};
 
 // Whether the flag is masked and whether it is forced.
 #[derive(Clone, Copy)]
@@ -25,14 +27,18 @@ pub(crate) fn effective_state(pkg: &mut PkgInProfile<'_>, flag: &[u8], places: &
     ensures value { result ≡ state pkg.old.pkg pkg.old.profile pkg.old.level flag.now }
     ensures same { pkg.new ≡ pkg.old }
 {
-    let effects = flag_effects(pkg, flag, places);
-    if effects.mask {
-        FlagState::Off
-    } else if effects.force {
-        FlagState::On
-    } else {
-        FlagState::Free
-    }
+    state_by(flag_effects(pkg, flag, places))
+}
+
+/// The same of a package that no atom of the rules names, by the rules for every package.
+pub(crate) fn general_state(pkg: &mut PkgInProfile<'_>, flag: &[u8], general: &Rules) -> FlagState
+    requires effective { is_effective pkg.old.pkg pkg.old.profile flag.now ≡ true }
+    requires general { general.now ≡ filter is_general pkg.old.profile.rules }
+    requires other { is_named pkg.old.profile.rules pkg.old.pkg ≡ false }
+    ensures value { result ≡ state pkg.old.pkg pkg.old.profile pkg.old.level flag.now }
+    ensures same { pkg.new ≡ pkg.old }
+{
+    state_by(general_effects(pkg, flag, general))
 }
 
 /// The state of the flag for the package in the profile, at this level: absent where it isn't effective, else masked,
@@ -53,6 +59,19 @@ pub fn state_of(pkg: &Pkg, profile: &Profile, level: Level, flag: &[u8]) -> Flag
     let places = profile.rules.places_of(flag);
     let mut pkg = PkgInProfile::new(pkg, profile, level);
     effective_state(&mut pkg, flag, places)
+}
+
+// The state of an effective flag.
+fn state_by(effects: Effects) -> FlagState
+    ensures { result ≡ (if effects.mask then Off else if effects.force then On else Free) }
+{
+    if effects.mask {
+        FlagState::Off
+    } else if effects.force {
+        FlagState::On
+    } else {
+        FlagState::Free
+    }
 }
 
 // The effects, with that of a rule that applies.
@@ -115,4 +134,15 @@ fn flag_effects(pkg: &mut PkgInProfile<'_>, flag: &[u8], places: &[u32]) -> Effe
 {
     let rules = pkg.profile().rules.items();
     effects_at(rules, places, pkg)
+}
+
+// The same by the rules for every package.
+fn general_effects(pkg: &mut PkgInProfile<'_>, flag: &[u8], general: &Rules) -> Effects
+    requires general { general.now ≡ filter is_general pkg.old.profile.rules }
+    requires other { is_named pkg.old.profile.rules pkg.old.pkg ≡ false }
+    ensures mask { result.mask ≡ has_effect Mask pkg.old.pkg pkg.old.profile pkg.old.level flag.now }
+    ensures force { result.force ≡ has_effect Force pkg.old.pkg pkg.old.profile pkg.old.level flag.now }
+    ensures same { pkg.new ≡ pkg.old }
+{
+    effects_at(general.items(), general.places_of(flag), pkg)
 }
