@@ -26,8 +26,6 @@ mod keys;
 mod known;
 mod laws;
 mod lowering;
-#[cfg(test)]
-mod made;
 mod names;
 mod nonexistent;
 mod one;
@@ -35,8 +33,6 @@ mod plainly;
 mod recalled;
 mod reporting;
 mod shared;
-#[cfg(test)]
-mod tests;
 mod unstated;
 mod used;
 mod views;

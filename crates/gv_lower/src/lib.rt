@@ -13,7 +13,6 @@
 //!   for the package.
 //! - `keys`: from these, what tells whether two contexts of a package have one and the same query, without its gates.
 //! - `laws`: laws of the definitions.
-//! - `caller`: the calls as the layers above make them.
 //!
 //! A call is linear in the query's weight, besides the look-ups: for each flag a search in halves among the query's flags
 //! and, where it is none of them, its state; for each atom two look-ups of its packages, and for each of these that is shown
@@ -22,30 +21,21 @@
 
 mod asks;
 mod atoms;
-mod caller;
 mod chains;
 mod class;
 mod flags;
 mod groups;
-#[cfg(test)]
-mod key_tests;
 mod keys;
 mod known;
 mod laws;
 mod lower;
 mod lowering;
-#[cfg(test)]
-mod made;
 mod mentions;
 mod parent;
 mod query;
-#[cfg(test)]
-mod random_tests;
 mod required;
 mod sites;
 mod sketch;
-#[cfg(test)]
-mod tests;
 mod weigh;
 
 pub use keys::{add_class_key, add_required_key, key_law};

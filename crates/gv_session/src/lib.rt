@@ -14,8 +14,6 @@
 mod fault;
 mod reporting;
 mod session;
-#[cfg(test)]
-mod tests;
 
 pub use fault::SessionFault;
 pub use session::Session;

@@ -14,8 +14,6 @@
 
 mod differing;
 mod laws;
-#[cfg(test)]
-mod tests;
 mod verifying;
 
 pub use laws::accepted_law;
