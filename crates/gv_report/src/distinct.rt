@@ -1,7 +1,7 @@
-//! Reports in order, equal ones once. O(n log n) comparisons of n reports, and the memory of their list and a set of
-//! references.
+//! Reports in order, equal ones once. O(n log n) comparisons of n reports, in place where each comes before the next, as is usual;
+//! else with the memory of one more list and a set of references.
 ghost use Rattle.std.specs.Prelude.{◌≡◌, [], IfOk};
-ghost use Rattle.gv_report.specs.Marks.{are_new, marked};
+ghost use Rattle.gv_report.specs.Marks.{are_new, are_strict, marked};
 ghost use Rattle.gv_report.specs.Distinct.{ordered};
 
 use crate::{Report, Reports};
@@ -14,11 +14,31 @@ use std::collections::BTreeSet;
 pub fn ordered(alloc: Global, reports: Reports) -> Result<Reports, NoMemory>
     ensures { IfOk result (λ in_order. in_order ≡ ordered reports) }
 {
-    let items = reports.into_items();
+    let mut items = reports.into_items();
+    items.sort_by(|one, other| one.compare(other))?;
+    if are_strict(&items) {
+        return Ok(Reports::of(items));
+    }
     let marks = are_new(alloc, &items)?;
-    let mut kept = marked(alloc, &marks, items)?;
-    kept.sort_by(|one, other| one.compare(other))?;
+    let kept = marked(alloc, &marks, items)?;
     Ok(Reports::of(kept))
+}
+
+// Whether each comes before the next.
+fn are_strict(reports: &[Report]) -> bool
+    ensures { result ≡ are_strict reports.now }
+{
+    let [first, rest @ ..] = reports else {
+        return true;
+    };
+    let mut last = first;
+    for report in rest {
+        if !last.compare(report).is_lt() {
+            return false;
+        }
+        last = report;
+    }
+    true
 }
 
 // Of each report whether it equals none in front of it.

@@ -158,6 +158,16 @@ impl Reports {
         Ok(())
     }
 
+    /// Adds reports at the end. After an error the list is unchanged.
+    pub fn append(&mut self, others: Reports) -> Result<(), NoMemory>
+        ensures ok { OnOk result (self.new ≡ self.old ++ others) }
+        ensures err { OnErr result (self.new ≡ self.old) }
+    {
+        let mut others = others.into_items();
+        self.items.append(&mut others)?;
+        Ok(())
+    }
+
     /// The reports, in order.
     pub fn items(&self) -> &[Report]
         ensures { result.now ≡ self.now }

@@ -376,6 +376,21 @@ fn in_order_equal_ones_once_and_ties_as_given(rt: HostRuntime) {
 }
 
 #[test]
+fn others_behind_and_then_in_order(rt: HostRuntime) {
+    let alloc = rt.alloc();
+    let options = all(&rt, alloc, false);
+    let two = "OrphanCache|x/y/2/y-2||||\nOrphanCache|x/y/1/y-1||||";
+    let mut given = reports(&rt, alloc, two);
+    let others = reports(&rt, alloc, "MissingCache|x/y/3/y-3||||");
+    given.append(others).expect(&rt, "memory");
+    let appended = "x/y-2: OrphanCache\nx/y-1: OrphanCache\nx/y-3: MissingCache\n";
+    prints(&rt, alloc, &options, &given, appended);
+    let in_order = ordered(alloc, given).expect(&rt, "memory");
+    let want = "x/y-1: OrphanCache\nx/y-2: OrphanCache\nx/y-3: MissingCache\n";
+    prints(&rt, alloc, &options, &in_order, want);
+}
+
+#[test]
 fn quotes_and_backslashes(rt: HostRuntime) {
     let alloc = rt.alloc();
     let reports = reports(&rt, alloc, "MetadataError|a\\b/y/1/y-1||||\"x\\\" ~ /");
