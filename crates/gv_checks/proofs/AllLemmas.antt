@@ -1,6 +1,6 @@
 -- All queries judged.
 use Rattle.std.proofs.Common.{◌≡◌, ℕ, ◌+◌, arith, List, [], ◌++◌, filter, refl, sym, ap, ◌∙◌, append-nil}
-use Rattle.std.specs.Prelude.{filter_map}
+use Rattle.std.specs.Prelude.{filter_map, flat_map}
 use Rattle.gv_base.specs.Counts.{Counts}
 use Rattle.gv_cert.specs.Known.{KnownRecord}
 use Rattle.gv_report.specs.Distinct.{ordered}
@@ -8,12 +8,14 @@ use Rattle.gv_report.specs.Selecting.{selected}
 use Rattle.gv_report.specs.declared.options.Options.{Options}
 use Rattle.gv_report.specs.declared.report.Report.{Report}
 use Rattle.gv_checks.specs.Answered.{IsJudged}
+use Rattle.gv_checks.specs.Cases.{members}
 use Rattle.gv_checks.specs.Certs.{counts_after}
 use Rattle.gv_checks.specs.Limits.{Refuses}
+use Rattle.gv_checks.specs.Plain.{told_member}
 use Rattle.gv_checks.specs.Progress.{IsAt, IsSomewhere, Outset, Stops}
 use Rattle.gv_checks.specs.Queries.{Query, queries}
 use Rattle.gv_checks.specs.Recalled.{IsRecalled, NotRecalls}
-use Rattle.gv_checks.specs.RepoReports.{plain_reports, query_report, scan_reports}
+use Rattle.gv_checks.specs.RepoReports.{query_report, scan_reports}
 use Rattle.gv_checks.specs.declared.fault.JudgeFault.{JudgeFault}
 use Rattle.gv_checks.specs.declared.fault.JudgeFault.TheVariants as judging
 use Rattle.gv_checks.specs.declared.fault.JudgeFault.TheVariants.{Spent, Limit}
@@ -24,6 +26,7 @@ use Rattle.gv_checks.specs.declared.recalled.Recalled.{Recalled}
 use Rattle.gv_checks.specs.declared.whole.Judged.{Judged}
 use Rattle.gv_checks.specs.declared.judging.Progress.{Progress}
 use Rattle.gv_load.specs.declared.loading.Repo.{Repo}
+use Rattle.gv_checks.proofs.PlainLemmas.{all_told}
 use Rattle.gv_checks.proofs.SelectedLemmas.{all_selected}
 
 none_counted : (c : Counts) → c ≡ counts_after c 0 []
@@ -49,14 +52,15 @@ pub some_begin : (b : ℕ) (given : List KnownRecord) (start : Counts) (first : 
 some_begin b given start first p at = record { start = outset start first; done = []; at = at }
 
 -- what is reported, with whatever budget
-reports_all : (o : Options) (b : ℕ) (given : List KnownRecord) (repo : Repo) (start now : Counts) (first : List Report) (p : Progress) (reports : List Report) → IsAt b given (outset start first) (queries o repo) p now
-    → first ≡ filter (selected o) (plain_reports repo) → reports ≡ ordered p.reports → reports ≡ scan_reports o repo
-reports_all o b given repo start now first p reports at plain e = e ∙ ap ordered (at.reports_are ∙ (ap (λ rs. rs ++ filter_map query_report (queries o repo)) plain ∙ all_selected o repo))
+reports_all : (o : Options) (b : ℕ) (given : List KnownRecord) (repo : Repo) (start now : Counts) (plain : List Report) (p : Progress) (reports : List Report) → IsAt b given (outset start []) (queries o repo) p now
+    → plain ≡ filter (selected o) repo.notes ++ flat_map (told_member o repo) (members repo) → reports ≡ ordered (plain ++ p.reports) → reports ≡ scan_reports o repo
+reports_all o b given repo start now plain p reports at is_plain e =
+    e ∙ ap ordered (ap (λ rs. plain ++ rs) at.reports_are ∙ (ap (λ rs. rs ++ filter_map query_report (queries o repo)) (is_plain ∙ sym (all_told o repo)) ∙ all_selected o repo))
 
-pub ends : (o : Options) (given : List KnownRecord) (repo : Repo) (start now : Counts) (first : List Report) (p : Progress) (j : Judged) → IsAt o.budget given (outset start first) (queries o repo) p now
-    → first ≡ filter (selected o) (plain_reports repo) → j.reports ≡ ordered p.reports → j.certs ≡ p.used.certs → j.queries ≡ p.queries → IsJudged o given repo start now j
-ends o given repo start now first p j at plain reports certs queries_are = record {
-  reports_are = reports_all o o.budget given repo start now first p j.reports at plain reports;
+pub ends : (o : Options) (given : List KnownRecord) (repo : Repo) (start now : Counts) (plain : List Report) (p : Progress) (j : Judged) → IsAt o.budget given (outset start []) (queries o repo) p now
+    → plain ≡ filter (selected o) repo.notes ++ flat_map (told_member o repo) (members repo) → j.reports ≡ ordered (plain ++ p.reports) → j.certs ≡ p.used.certs → j.queries ≡ p.queries → IsJudged o given repo start now j
+ends o given repo start now plain p j at is_plain reports certs queries_are = record {
+  reports_are = reports_all o o.budget given repo start now plain p j.reports at is_plain reports;
   certs = at.used.certs;
   are = at.used.are;
   records_are = certs ∙ at.used.records_are;
@@ -75,10 +79,10 @@ refused b given queries count (Limit place number) s = record { before = s.befor
 refused b given queries count judging.NoMemory s = tt
 
 -- By records alone.
-pub recalled : (o : Options) (given : List KnownRecord) (repo : Repo) (start now : Counts) (first : List Report) (p : Progress) (r : Recalled) → IsAt 0 given (outset start first) (queries o repo) p now
-    → first ≡ filter (selected o) (plain_reports repo) → r.reports ≡ ordered p.reports → r.queries ≡ p.queries → IsRecalled o given repo r
-recalled o given repo start now first p r at plain reports queries_are = record {
-  reports_are = reports_all o 0 given repo start now first p r.reports at plain reports;
+pub recalled : (o : Options) (given : List KnownRecord) (repo : Repo) (start now : Counts) (plain : List Report) (p : Progress) (r : Recalled) → IsAt 0 given (outset start []) (queries o repo) p now
+    → plain ≡ filter (selected o) repo.notes ++ flat_map (told_member o repo) (members repo) → r.reports ≡ ordered (plain ++ p.reports) → r.queries ≡ p.queries → IsRecalled o given repo r
+recalled o given repo start now plain p r at is_plain reports queries_are = record {
+  reports_are = reports_all o 0 given repo start now plain p r.reports at is_plain reports;
   queries_are = queries_are ∙ at.queries_are;
   within = at.within;
   formed = at.formed;

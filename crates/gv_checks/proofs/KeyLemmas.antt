@@ -14,7 +14,8 @@ use Rattle.gv_lower.specs.Sites.{ClassSites, RequiredFlags}
 use Rattle.gv_usestate.specs.Kinds.{IsOneOf}
 use Rattle.gv_visible.specs.Candidates.{VisiblePkgs}
 use Rattle.gv_checks.specs.Context.{case_of}
-use Rattle.gv_checks.specs.Keys.{ArePartsOf, AreSitesOf, HasSites, flags_in, sites_at, sites_in}
+use Rattle.gv_checks.specs.Alike.{first_at}
+use Rattle.gv_checks.specs.Keys.{ArePartsOf, AreSitesOf, HasSites, flags_in, own_sites, sites_at, sites_in}
 use Rattle.gv_checks.specs.Queries.{query_of}
 use Rattle.gv_checks.specs.Shared.{asked_key, key_of}
 use Rattle.gv_checks.specs.declared.context.JudgedPkg.{JudgedPkg}
@@ -59,13 +60,18 @@ module _ (j : JudgedPkg) (s : PkgSites) (has : HasSites j s) where
       ∙ sym (ap (λ r. required_key (case_of j).parent (unwrap_or r [])) it.1.0))))
 
 -- of a class
+own_made : (profiles : List Profile) (p : Pkg) (pkgs : List Pkg) (body : Body) (s : PkgSites) → AreSitesOf profiles p pkgs body s → (class other : Class) → first_at s.firsts other ≡ class
+    → own_sites s class ≡ option_map (sites_in profiles p pkgs) (class_in body class)
+own_made profiles p pkgs body s are Required other first = refl
+own_made profiles p pkgs body s are Depend other first = are.depend
+own_made profiles p pkgs body s are Bdepend other first = are.bdepend other first
+own_made profiles p pkgs body s are Rdepend other first = are.rdepend other first
+own_made profiles p pkgs body s are Pdepend other first = are.pdepend other first
+own_made profiles p pkgs body s are Idepend other first = are.idepend other first
+
 sites_made : (profiles : List Profile) (p : Pkg) (pkgs : List Pkg) (body : Body) (s : PkgSites) → AreSitesOf profiles p pkgs body s → (class : Class) → sites_at s class ≡ option_map (sites_in profiles p pkgs) (class_in body class)
-sites_made profiles p pkgs body s are Required = refl
-sites_made profiles p pkgs body s are Depend = are.depend
-sites_made profiles p pkgs body s are Bdepend = are.bdepend
-sites_made profiles p pkgs body s are Rdepend = are.rdepend
-sites_made profiles p pkgs body s are Pdepend = are.pdepend
-sites_made profiles p pkgs body s are Idepend = are.idepend
+sites_made profiles p pkgs body s are class =
+    own_made profiles p pkgs body s are (first_at s.firsts class) class refl ∙ ap (option_map (sites_in profiles p pkgs)) (are.firsts class)
 
 module _ (j : JudgedPkg) (view : VisiblePkgs) (s : PkgSites) (required : List ℕ) (parts : ArePartsOf j view s required) (class : Class) where
   has : HasSites j s

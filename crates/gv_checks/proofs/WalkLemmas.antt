@@ -14,7 +14,9 @@ use Rattle.gv_facts.specs.declared.pkg.Pkg.{Pkg}
 use Rattle.gv_facts.specs.declared.profile.Profile.{Profile}
 use Rattle.gv_facts.specs.Visible.{judged}
 use Rattle.gv_report.specs.declared.options.Options.{Options}
+use Rattle.gv_report.specs.declared.report.Report.{Report}
 use Rattle.gv_checks.specs.Cases.{Case, Member, case_at, case_in, cases_of, members_from}
+use Rattle.gv_checks.specs.Plain.{told_member}
 use Rattle.gv_checks.specs.Progress.{IsAt, Judges, Stops}
 use Rattle.gv_checks.specs.Queries.{Query, case_queries, is_asked, query_of}
 use Rattle.gv_checks.specs.Walks.{IsWalk, seen}
@@ -168,6 +170,33 @@ module _ (o : Options) (repo : Repo) (pkgs : List Pkg) (bodies : List Body) wher
   bodies_end i b given p0 p1 n0 n1 u le walk =
       walk_end b given (queries_from 0 pkgs bodies) (queries_from i (drop i pkgs) (drop i bodies)) p0 p1 n0 n1 u
       (ap (λ bs. queries_from i (drop i pkgs) bs) (drop_of_length-le bodies le) ∙ ap (λ ms. flat_map (case_queries o) (flat_map (cases_of repo) ms)) (none_left i (drop i pkgs))) walk
+
+-- the reports that need no query
+module _ (o : Options) (repo : Repo) (pkgs : List Pkg) (bodies : List Body) where
+  abbrev told_from : ℕ → List Pkg → List Body → List Report
+  told_from n ps bs = flat_map (told_member o repo) (members_from n ps bs)
+
+  pub told_next : (pkg : Pkg) (body : Body) (i : ℕ) → i < length pkgs → i < length bodies → pkg ≡ get_or pkgs i pkg → body ≡ get_or bodies i body → (n : ℕ) → n ≡ i
+      → (old new : List Report) → new ≡ old ++ told_member o repo (record { number = n; pkg = pkg; body = body })
+      → (whole : List Report) → old ++ told_from i (drop i pkgs) (drop i bodies) ≡ whole → new ++ told_from (i + 1) (drop (i + 1) pkgs) (drop (i + 1) bodies) ≡ whole
+  told_next pkg body i lp lb here body_here n e old new more whole on =
+      ap (λ l. l ++ rest) (more ∙ ap (λ k. old ++ told_member o repo (record { number = k; pkg = pkg; body = body })) e)
+      ∙ (append_assoc old (told_member o repo (record { number = i; pkg = pkg; body = body })) rest ∙ (ap (λ l. old ++ l) (sym unfolded) ∙ on))
+    where
+      rest : List Report
+      rest = told_from (i + 1) (drop (i + 1) pkgs) (drop (i + 1) bodies)
+
+      unfolded : told_from i (drop i pkgs) (drop i bodies) ≡ told_member o repo (record { number = i; pkg = pkg; body = body }) ++ rest
+      unfolded = ap (λ ps. told_from i ps (drop i bodies)) (drop_here pkgs pkg i lp here) ∙ ap (λ bs. told_from i (pkg ∷ drop (i + 1) pkgs) bs) (drop_here bodies body i lb body_here)
+
+  pub told_end : (i : ℕ) → length pkgs ≤ i → (old whole : List Report) → old ++ told_from i (drop i pkgs) (drop i bodies) ≡ whole → old ≡ whole
+  told_end i le old whole on = sym (append-nil old) ∙ (ap (λ ps. old ++ told_from i ps (drop i bodies)) (sym (drop_of_length-le pkgs le)) ∙ on)
+
+  pub told_bodies_end : (i : ℕ) → length bodies ≤ i → (old whole : List Report) → old ++ told_from i (drop i pkgs) (drop i bodies) ≡ whole → old ≡ whole
+  told_bodies_end i le old whole on =
+      sym (append-nil old)
+      ∙ (ap (λ ms. old ++ flat_map (told_member o repo) ms) (sym (none_left i (drop i pkgs)))
+      ∙ (ap (λ bs. old ++ told_from i (drop i pkgs) bs) (sym (drop_of_length-le bodies le)) ∙ on))
 
 -- as the code has them
 module _ (repo : Repo) (pkg : Pkg) (body : Body) (n i : ℕ) (e : n ≡ i) where

@@ -11,7 +11,7 @@ use Rattle.gv_lower.specs.Keys.{required_key}
 use Rattle.gv_lower.specs.Sites.{ClassSites, RequiredFlags}
 use Rattle.gv_usestate.specs.Kinds.{IsOneOf}
 use Rattle.gv_visible.specs.Candidates.{VisiblePkgs}
-use Rattle.gv_checks.specs.Alike.{AreFirsts}
+use Rattle.gv_checks.specs.Alike.{AreFirsts, first_at}
 use Rattle.gv_checks.specs.Context.{case_of}
 use Rattle.gv_checks.specs.Walks.{seen}
 use Rattle.gv_checks.specs.declared.context.JudgedPkg.{JudgedPkg}
@@ -23,23 +23,27 @@ flags_in profiles p required = record { profiles = profiles; of = p; required = 
 abbrev pub sites_in : List Profile → Pkg → List Pkg → List Dep → ClassSites
 sites_in profiles p pkgs class = record { profiles = profiles; of = p; pkgs = pkgs; class = class }
 
--- those of each class that isn't broken
+-- those of each class that isn't broken and is the first with its expression
 pub record AreSitesOf (profiles : List Profile) (p : Pkg) (pkgs : List Pkg) (body : Body) (s : PkgSites) : Type 0 where
   pub firsts : AreFirsts body s.firsts
   pub required : s.required ≡ option_map (flags_in profiles p) body.required
   pub depend : s.depend ≡ option_map (sites_in profiles p pkgs) body.depend
-  pub bdepend : s.bdepend ≡ option_map (sites_in profiles p pkgs) body.bdepend
-  pub rdepend : s.rdepend ≡ option_map (sites_in profiles p pkgs) body.rdepend
-  pub pdepend : s.pdepend ≡ option_map (sites_in profiles p pkgs) body.pdepend
-  pub idepend : s.idepend ≡ option_map (sites_in profiles p pkgs) body.idepend
+  pub bdepend : (other : Class) → first_at s.firsts other ≡ Bdepend → s.bdepend ≡ option_map (sites_in profiles p pkgs) body.bdepend
+  pub rdepend : (other : Class) → first_at s.firsts other ≡ Rdepend → s.rdepend ≡ option_map (sites_in profiles p pkgs) body.rdepend
+  pub pdepend : (other : Class) → first_at s.firsts other ≡ Pdepend → s.pdepend ≡ option_map (sites_in profiles p pkgs) body.pdepend
+  pub idepend : (other : Class) → first_at s.firsts other ≡ Idepend → s.idepend ≡ option_map (sites_in profiles p pkgs) body.idepend
 
+abbrev pub own_sites : PkgSites → Class → Option ClassSites
+own_sites s Required = None
+own_sites s Depend = s.depend
+own_sites s Bdepend = s.bdepend
+own_sites s Rdepend = s.rdepend
+own_sites s Pdepend = s.pdepend
+own_sites s Idepend = s.idepend
+
+-- those of the first class with its expression
 abbrev pub sites_at : PkgSites → Class → Option ClassSites
-sites_at s Required = None
-sites_at s Depend = s.depend
-sites_at s Bdepend = s.bdepend
-sites_at s Rdepend = s.rdepend
-sites_at s Pdepend = s.pdepend
-sites_at s Idepend = s.idepend
+sites_at s class = own_sites s (first_at s.firsts class)
 
 -- the sites of the package of a context, whose profile is one of those of the sites
 pub record HasSites (j : JudgedPkg) (s : PkgSites) : Type 0 where

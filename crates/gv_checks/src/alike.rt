@@ -49,6 +49,18 @@ impl Firsts {
             Class::Idepend => self.idepend,
         }
     }
+
+    /// Whether it is that of some class.
+    pub(crate) fn is_first(self, class: Class) -> bool
+        ensures { (other : Class) → first_at self other ≡ class → result ≡ true }
+    {
+        class == Class::Required
+            || class == Class::Depend
+            || class == self.bdepend
+            || class == self.rdepend
+            || class == self.pdepend
+            || class == self.idepend
+    }
 }
 
 fn first_of(body: &Body, class: Class) -> Class

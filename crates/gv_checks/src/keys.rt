@@ -2,7 +2,7 @@
 //! expression, found once for the package, and the key of its REQUIRED_USE, made once for each context.
 //!
 //! A key costs what `gv_lower` says of the key of its class.
-ghost use Rattle.std.specs.Prelude.{◌≡◌, ◌++◌, [], option_map, unwrap_or, IfOk, OnOk};
+ghost use Rattle.std.specs.Prelude.{◌≡◌, true, ◌++◌, [], option_map, unwrap_or, IfOk, OnOk};
 ghost use Rattle.std.specs.Option.{option_copied};
 ghost use Rattle.gv_lower.specs.Keys.{required_key};
 ghost use Rattle.gv_checks.specs.Alike.{first_at};
@@ -23,7 +23,7 @@ use gv_usestate::{ProfileStates, RuledFlags};
 use gv_visible::PkgIndex;
 use std::alloc::Global;
 
-/// What the queries of a package ask about, of each class that isn't broken.
+/// What the queries of a package ask about, of each class that isn't broken and is the first with its expression.
 #[derive(Drop)]
 pub(crate) struct PkgSites<'a> {
     /// The classes that have the same expression.
@@ -47,14 +47,19 @@ impl<'a> PkgSites<'a> {
     ) -> Result<PkgSites<'a>, NoMemory>
         ensures { IfOk result (AreSitesOf ruled.now pkg.now index.now body.now) }
     {
+        let firsts = Firsts::of(body);
+        let bdepend = firsts.is_first(Class::Bdepend);
+        let rdepend = firsts.is_first(Class::Rdepend);
+        let pdepend = firsts.is_first(Class::Pdepend);
+        let idepend = firsts.is_first(Class::Idepend);
         Ok(PkgSites {
-            firsts: Firsts::of(body),
+            firsts,
             required: required_in(alloc, ruled, pkg, &body.required)?,
             depend: sites_in(alloc, ruled, pkg, index, &body.depend)?,
-            bdepend: sites_in(alloc, ruled, pkg, index, &body.bdepend)?,
-            rdepend: sites_in(alloc, ruled, pkg, index, &body.rdepend)?,
-            pdepend: sites_in(alloc, ruled, pkg, index, &body.pdepend)?,
-            idepend: sites_in(alloc, ruled, pkg, index, &body.idepend)?,
+            bdepend: sites_if(alloc, ruled, pkg, index, bdepend, &body.bdepend)?,
+            rdepend: sites_if(alloc, ruled, pkg, index, rdepend, &body.rdepend)?,
+            pdepend: sites_if(alloc, ruled, pkg, index, pdepend, &body.pdepend)?,
+            idepend: sites_if(alloc, ruled, pkg, index, idepend, &body.idepend)?,
         })
     }
 
@@ -68,7 +73,7 @@ impl<'a> PkgSites<'a> {
     fn at(&self, class: Class) -> Option<&ClassSites<'a>>
         ensures { option_copied result ≡ sites_at self.now class }
     {
-        match class {
+        match self.first(class) {
             Class::Required => None,
             Class::Depend => self.depend.as_ref(),
             Class::Bdepend => self.bdepend.as_ref(),
@@ -147,5 +152,23 @@ fn sites_in<'a>(
     match class {
         Some(class) => Ok(Some(ClassSites::new(alloc, ruled, pkg, index, class)?)),
         None => Ok(None),
+    }
+}
+
+// Nothing of a class for which another stands.
+fn sites_if<'a>(
+    alloc: Global,
+    ruled: &'a RuledFlags<'a>,
+    pkg: &'a Pkg,
+    index: &PkgIndex<'a>,
+    is_first: bool,
+    class: &'a Option<DepExpr>,
+) -> Result<Option<ClassSites<'a>>, NoMemory>
+    ensures { IfOk result (λ sites. is_first ≡ true → sites ≡ option_map (sites_in ruled.now pkg.now index.now) class.now) }
+{
+    if is_first {
+        sites_in(alloc, ruled, pkg, index, class)
+    } else {
+        Ok(None)
     }
 }

@@ -37,8 +37,7 @@ pub(crate) fn plain_among(
     requires views { views.now ≡ map (seen repo.now.pkgs) repo.now.profiles }
     ensures { IfOk result (λ reports. reports ≡ filter (selected options.now) (plain_reports repo.now)) }
 {
-    let mut reports = Reports::new(alloc);
-    add_selected(alloc, options, repo.notes.items(), &mut reports)?;
+    let mut reports = noted(alloc, repo, options)?;
     add_members(
         alloc,
         options,
@@ -60,6 +59,15 @@ pub fn plain(alloc: Global, repo: &Repo, options: &Options) -> Result<Reports, N
 {
     let index = PkgIndex::new(alloc, &repo.pkgs)?;
     plain_over(alloc, repo, &index, options)
+}
+
+/// The selected notes.
+pub(crate) fn noted(alloc: Global, repo: &Repo, options: &Options) -> Result<Reports, NoMemory>
+    ensures { IfOk result (λ reports. reports ≡ filter (selected options.now) repo.now.notes) }
+{
+    let mut reports = Reports::new(alloc);
+    add_selected(alloc, options, repo.notes.items(), &mut reports)?;
+    Ok(reports)
 }
 
 fn add_selected(
@@ -178,8 +186,8 @@ fn add_cases(
     Ok(())
 }
 
-// Adds those of a package.
-fn add_member(
+/// Adds those of a package.
+pub(crate) fn add_member(
     alloc: Global,
     options: &Options,
     repo: &Repo,

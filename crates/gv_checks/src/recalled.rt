@@ -10,7 +10,7 @@ ghost use Rattle.gv_checks.specs.Recalled.{NotRecalls, Recalls};
 
 use crate::JudgeFault;
 use crate::judging::{Progress, next_number};
-use crate::plainly::plain_among;
+use crate::plainly::noted;
 use crate::used::Used;
 use crate::views::all_views;
 use crate::walking::judge_all;
@@ -100,10 +100,10 @@ fn recall_indexed<'a, L: Ledger>(
     ensures unsolved { steps.new.solve ≡ steps.old.solve }
 {
     let views = all_views(alloc, index, repo.profiles.items())?;
-    let first = plain_among(alloc, repo, index, &views, options)?;
+    let mut plain = noted(alloc, repo, options)?;
     let mut progress = Progress {
         used: Used::new(alloc),
-        reports: first,
+        reports: Reports::new(alloc),
         queries: 0,
     };
     match judge_all(
@@ -115,14 +115,20 @@ fn recall_indexed<'a, L: Ledger>(
         options,
         0,
         certs,
+        &mut plain,
         &mut progress,
         steps,
     ) {
         Ok(()) => {}
         Err(fault) => return Err(fault_behind(fault, progress.queries)),
     }
-    let queries = progress.queries;
-    let reports = ordered(alloc, progress.reports)?;
+    let Progress {
+        used: _,
+        reports: asked,
+        queries,
+    } = progress;
+    plain.append(asked)?;
+    let reports = ordered(alloc, plain)?;
     Ok(Recalled { reports, queries })
 }
 

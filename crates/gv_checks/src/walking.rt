@@ -2,12 +2,14 @@
 //!
 //! The packages are indexed once, and what each profile shows of them is asked once. Then a package costs O(profiles) and
 //! finding what its classes ask about, and each context in which it is judged the keys of its queries. What is lowered in one
-//! context of a package is shared by the others.
+//! context of a package is shared by the others. A package's reports that need no query are made just before its queries, since both
+//! look up the same names.
 ghost use Rattle.std.specs.Prelude.{◌≡◌, ◌≤◌, ◌++◌, Some, slice_get, map, filter, flat_map, filter_map, IfOk, OnOk};
 ghost use Rattle.gv_visible.specs.Candidates.{test_of};
 ghost use Rattle.gv_checks.specs.Cases.{case_in, cases_of, members, members_from};
 ghost use Rattle.gv_checks.specs.Context.{AreAround, IsNumbered, case_of};
 ghost use Rattle.gv_checks.specs.Keys.{ArePartsOf, HasSites};
+ghost use Rattle.gv_checks.specs.Plain.{told_member};
 ghost use Rattle.gv_checks.specs.Shared.{AreKept, AreReady};
 ghost use Rattle.gv_checks.specs.Walks.{seen};
 ghost use Rattle.gv_checks.specs.Progress.{IsSomewhere, Judges};
@@ -17,6 +19,7 @@ use crate::classes::classes;
 use crate::context::JudgedPkg;
 use crate::judging::{Progress, add_case_names, is_asked, judge_query};
 use crate::keys::{PkgSites, make_required_key};
+use crate::plainly::add_member;
 use crate::shared::Shared;
 use crate::views::ProfileView;
 use crate::{JudgeFault, QueryNames};
@@ -25,12 +28,13 @@ use gv_cert::Known;
 use gv_entry::Body;
 use gv_facts::{Class, Pkg, Profile};
 use gv_load::Repo;
-use gv_report::Options;
+use gv_report::{Options, Reports};
 use gv_usestate::RuledFlags;
 use gv_visible::{Candidates, PkgIndex, judged, visible};
 use std::alloc::Global;
 
-/// Judges all queries, in order; with no budget by the records alone. The views are those of the profiles.
+/// Judges all queries, in order, and adds the reports that need none; with no budget by the records alone. The views are those of
+/// the profiles.
 pub(crate) fn judge_all<L: Ledger>(
     alloc: Global,
     repo: &Repo,
@@ -40,6 +44,7 @@ pub(crate) fn judge_all<L: Ledger>(
     options: &Options,
     budget: u32,
     given: &Known,
+    plain: &mut Reports,
     progress: &mut Progress,
     steps: &mut Steps<L>,
 ) -> Result<(), JudgeFault>
@@ -50,6 +55,7 @@ pub(crate) fn judge_all<L: Ledger>(
     requires somewhere { IsSomewhere budget given.now progress.old steps.old }
     ensures judges { Judges budget given.now (queries options.now repo.now) progress.old progress.new steps.old steps.new result }
     ensures unsolved { budget ≡ 0 → steps.new.solve ≡ steps.old.solve }
+    ensures plain { OnOk result (plain.new ≡ plain.old ++ flat_map (told_member options.now repo.now) (members repo.now)) }
 {
     let pkgs = repo.pkgs.items();
     let bodies = repo.bodies.items();
@@ -60,9 +66,9 @@ pub(crate) fn judge_all<L: Ledger>(
         let Ok(number) = u32::try_from(i) else {
             return Err(JudgeFault::NoMemory);
         };
-        match judge_pkg(
+        match judge_member(
             alloc, repo, &*index, &*ruled, views, number, pkg, &bodies[i], options, budget, given,
-            progress, steps,
+            plain, progress, steps,
         ) {
             Ok(()) => {}
             Err(fault) => return Err(fault),
@@ -167,6 +173,42 @@ fn judge_case<'a, L: Ledger>(
         given,
         progress,
         shared,
+        steps,
+    )
+}
+
+// Judges a package's queries, behind its reports that need none.
+fn judge_member<'a, L: Ledger>(
+    alloc: Global,
+    repo: &Repo,
+    index: &'a PkgIndex<'a>,
+    ruled: &'a RuledFlags<'a>,
+    views: &[ProfileView<'_>],
+    number: u32,
+    pkg: &'a Pkg,
+    body: &'a Body,
+    options: &Options,
+    budget: u32,
+    given: &Known,
+    plain: &mut Reports,
+    progress: &mut Progress,
+    steps: &mut Steps<L>,
+) -> Result<(), JudgeFault>
+    requires index { index.now ≡ repo.now.pkgs }
+    requires ruled { ruled.now ≡ repo.now.profiles }
+    requires views { views.now ≡ map (seen repo.now.pkgs) repo.now.profiles }
+    requires numbered { slice_get repo.now.pkgs number ≡ Some pkg.now }
+    requires most { budget ≤ 1000000 }
+    requires somewhere { IsSomewhere budget given.now progress.old steps.old }
+    ensures judges { Judges budget given.now (flat_map (case_queries options.now) (filter_map (case_in repo.now.pkgs (record { number = number; pkg = pkg.now; body = body.now })) repo.now.profiles)) progress.old progress.new steps.old steps.new result }
+    ensures unsolved { budget ≡ 0 → steps.new.solve ≡ steps.old.solve }
+    ensures plain { OnOk result (plain.new ≡ plain.old ++ told_member options.now repo.now (record { number = number; pkg = pkg.now; body = body.now })) }
+{
+    add_member(
+        alloc, options, repo, &*index, views, number, pkg, body, plain,
+    )?;
+    judge_pkg(
+        alloc, repo, index, ruled, views, number, pkg, body, options, budget, given, progress,
         steps,
     )
 }

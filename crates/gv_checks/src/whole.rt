@@ -7,7 +7,7 @@ ghost use Rattle.gv_checks.specs.Answered.{JudgesAll};
 
 use crate::JudgeFault;
 use crate::judging::Progress;
-use crate::plainly::plain_among;
+use crate::plainly::noted;
 use crate::used::Used;
 use crate::views::all_views;
 use crate::walking::judge_all;
@@ -62,10 +62,10 @@ fn judge_indexed<'a, L: Ledger>(
     ensures { JudgesAll options.now certs.now repo.now steps.old steps.new result }
 {
     let views = all_views(alloc, index, repo.profiles.items())?;
-    let first = plain_among(alloc, repo, index, &views, options)?;
+    let mut plain = noted(alloc, repo, options)?;
     let mut progress = Progress {
         used: Used::new(alloc),
-        reports: first,
+        reports: Reports::new(alloc),
         queries: 0,
     };
     match judge_all(
@@ -77,6 +77,7 @@ fn judge_indexed<'a, L: Ledger>(
         options,
         options.budget,
         certs,
+        &mut plain,
         &mut progress,
         steps,
     ) {
@@ -85,11 +86,12 @@ fn judge_indexed<'a, L: Ledger>(
     }
     let Progress {
         used,
-        reports,
+        reports: asked,
         queries,
     } = progress;
     let Used { certs, found: _ } = used;
-    let reports = ordered(alloc, reports)?;
+    plain.append(asked)?;
+    let reports = ordered(alloc, plain)?;
     Ok(Judged {
         reports,
         certs,
