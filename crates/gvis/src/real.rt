@@ -111,7 +111,10 @@ pub(crate) fn trouble_of(e: &io::Error) -> Trouble {
 
 // The path under the root.
 fn full_path(alloc: Global, root: &Text, path: &Text) -> Result<String, Trouble> {
-    let mut bytes = Vec::new(alloc);
+    let length = root.bytes().len().saturating_add(path.bytes().len());
+    let Ok(mut bytes) = Vec::with_capacity(alloc, length.saturating_add(1)) else {
+        return Err(Trouble::NoMemory);
+    };
     if bytes.extend_from_slice(root.bytes()).is_err()
         || bytes.push(b'/').is_err()
         || bytes.extend_from_slice(path.bytes()).is_err()
@@ -121,8 +124,15 @@ fn full_path(alloc: Global, root: &Text, path: &Text) -> Result<String, Trouble>
     String::from_utf8(bytes).map_err(|_| Trouble::Other)
 }
 
-// All the bytes of a file, of which there may be no more than that.
-fn read_file<R: Files>(rt: &R, alloc: Global, path: &str, limit: u64) -> Result<Text, Trouble>
+// All the bytes of a file, of which there may be no more than that. Where it held so many when it was looked at, the system isn't
+// asked once more whether it ends there.
+fn read_file<R: Files>(
+    rt: &R,
+    alloc: Global,
+    path: &str,
+    held: u64,
+    limit: u64,
+) -> Result<Text, Trouble>
     requires { limit < 2 ^ 63 }
     ensures { IfOk result (λ text. length text ≤ limit) }
 {
@@ -144,6 +154,9 @@ fn read_file<R: Files>(rt: &R, alloc: Global, path: &str, limit: u64) -> Result<
         if text.append(&part[..count]).is_err() {
             return Err(Trouble::NoMemory);
         }
+        if text.bytes().len() as u64 == held {
+            return Ok(text);
+        }
     }
     Err(Trouble::Other)
 }
@@ -159,7 +172,8 @@ fn look<R: Files>(rt: &R, alloc: Global, path: &str) -> Result<Found, Trouble>
     if !metadata.is_file() {
         return Err(Trouble::Other);
     }
-    Ok(Found::File(read_file(rt, alloc, path, MAX_FILE_BYTES)?))
+    let held = metadata.len();
+    Ok(Found::File(read_file(rt, alloc, path, held, MAX_FILE_BYTES)?))
 }
 
 // The bytes of a file, links followed. What is neither a file nor a folder, as a pipe or a device, counts as no file: it may
@@ -172,7 +186,7 @@ fn stored<R: Files>(rt: &R, alloc: Global, path: &str) -> Result<Option<Text>, T
     if !metadata.is_file() {
         return Ok(None);
     }
-    Ok(Some(read_file(rt, alloc, path, 1 << 62)?))
+    Ok(Some(read_file(rt, alloc, path, metadata.len(), 1 << 62)?))
 }
 
 fn names<R: Files + AllocGlobal + Clone + Drop>(
