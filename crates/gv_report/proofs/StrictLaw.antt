@@ -1,7 +1,7 @@
 -- Reports that are put in order before equal ones go; where each comes before the next, none has to go.
 use Rattle.std.proofs.Common.{◌≡◌, Bool, true, false, cond, List, [], ◌∷◌, refl, sym, ap, ◌∙◌}
 use Rattle.std.specs.Prelude.{not, ◌&&◌, ◌||◌}
-use Rattle.std.specs.List.{filter, list_all, list_any}
+use Rattle.std.specs.List.{filter, list_all}
 use Rattle.std.specs.List.Sorted.{ties}
 use Rattle.std.proofs.lemmas.Bool.{and_parts, true≢false}
 use Rattle.gv_report.specs.declared.report.Report.{Report}
@@ -71,7 +71,7 @@ none_goes r (s ∷ rs) h = by (is_same r s) h (none_goes r rs)
     by true h later = absurd (true≢false h)
     by false h later = ap (λ l. s ∷ l) (later h)
 
-all_stay : (rs : List Report) → AreDistinct rs → firsts rs ≡ rs
+pub all_stay : (rs : List Report) → AreDistinct rs → firsts rs ≡ rs
 all_stay [] d = refl
 all_stay (r ∷ rs) d = ap (λ l. r ∷ filter (λ s. not (is_same r s)) l) (all_stay rs d.1) ∙ ap (λ l. r ∷ l) (none_goes r rs d.0)
 

@@ -10,6 +10,7 @@ pub mod Order
 pub mod OrderTotal
 pub mod Printable
 pub mod PrivateWords
+pub mod Renewing
 pub mod Rows
 pub mod Selecting
 pub mod Sorting

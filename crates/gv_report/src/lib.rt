@@ -29,7 +29,7 @@ mod telling;
 pub use distinct::ordered;
 pub use emitter::Emitter;
 pub use keyword::{Keyword, Keywords};
-pub use laws::{line_law, object_law, order_law, ordered_law, selected_law};
+pub use laws::{line_law, object_law, order_law, ordered_law, renewed_law, selected_law};
 pub use options::Options;
 pub use report::{ContextName, Report, Reports, Subject};
 pub use selecting::selected;

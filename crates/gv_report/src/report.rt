@@ -142,8 +142,8 @@ impl Reports {
         Reports { items }
     }
 
-    // The reports.
-    pub(crate) fn into_items(self) -> Vec<Report>
+    /// The reports, in order, given away.
+    pub fn into_items(self) -> Vec<Report>
         ensures { result.items ≡ self }
     {
         self.items
