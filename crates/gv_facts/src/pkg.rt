@@ -117,6 +117,13 @@ impl Pkgs {
         Ok(())
     }
 
+    /// The packages, in order, given away.
+    pub fn into_items(self) -> Vec<Pkg>
+        ensures { result.items ≡ self }
+    {
+        self.items
+    }
+
     /// The packages, in order.
     pub fn items(&self) -> &[Pkg]
         ensures { result.now ≡ self.now }
