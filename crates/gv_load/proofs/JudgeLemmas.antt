@@ -52,7 +52,7 @@ or_left : (a b : Bool) → a ≡ true → (a || b) ≡ true
 or_left true b is = refl
 or_left false b is = cc
 
-all_named : (names : List (List ℕ)) (reads : List PfRead) → ((name : List ℕ) → has_text (flat_map names_in reads) name ≡ true → has_text names name ≡ true) → AllNamed names reads
+pub all_named : (names : List (List ℕ)) (reads : List PfRead) → ((name : List ℕ) → has_text (flat_map names_in reads) name ≡ true → has_text names name ≡ true) → AllNamed names reads
 all_named names [] within = tt
 all_named names (r ∷ rs) within = (
   (λ name is. within name (list_any-append (bytes_eq name) (names_in r) (flat_map names_in rs) ∙ or_left _ _ is)),

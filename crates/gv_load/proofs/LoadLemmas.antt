@@ -1,6 +1,6 @@
 -- A whole load, by its parts.
-use Rattle.std.proofs.Common.{◌≡◌, ◌≤◌, ℕ, List, ◌++◌, refl, sym, ap, subst, ◌∙◌, arith}
-use Rattle.std.specs.Prelude.{Option, Some, None, Result, Ok, Err, IfErr, IfOk, IfSome, OnOk}
+use Rattle.std.proofs.Common.{◌≡◌, ℕ, List, ◌++◌, refl, sym, ap, subst, ◌∙◌, arith}
+use Rattle.std.specs.Prelude.{Option, Some, None, Result, Ok, Err, IfSome}
 use Rattle.gv_base.specs.FileMap.{FileMap}
 use Rattle.gv_load.specs.declared.faults.LoadFault.{LoadFault}
 use Rattle.gv_load.specs.declared.faults.LoadFault.TheVariants.{Tree, NotARepository, Limit, NoMemory}
@@ -8,7 +8,8 @@ use Rattle.gv_load.specs.declared.freshness.PfKept.{PfKept}
 use Rattle.gv_load.specs.declared.lists.Lists.{Lists}
 use Rattle.gv_load.specs.declared.loading.Repo.{Repo}
 use Rattle.gv_load.specs.declared.line_profiles.Profiled.{Profiled}
-use Rattle.gv_load.specs.Causes.{Cause, HasRead, Reads, View, IsTold, look_in}
+use Rattle.gv_load.specs.Causes.{Cause, HasEnded, HasRead, View, IsTold, look_in}
+use Rattle.gv_load.specs.EntriesPass.{PassesWithin}
 use Rattle.gv_load.specs.Freshness.{all_kept}
 use Rattle.gv_load.specs.Reader.{Seen, nothing}
 use Rattle.gv_load.specs.Loading.{LoadCause, loading}
@@ -66,34 +67,25 @@ load_cause (Some files) before now (NotARepository path) cause = (cause.0, refus
 load_cause None before now (Limit place number) cause = (cause.0, tt)
 load_cause (Some files) before now (Limit place number) cause = (cause.0, refused (look_of files) (Limit place number) (cause.1 refl))
 
--- what a load tells, by what its reading tells
-pub record Loads (before now : View) (result : Result Repo LoadFault) : Type 0 where
-  pub repo : IfOk result (λ repo. IfSome before.told (λ files. loading (look_of files) ≡ Ok repo))
-  pub cause : IfErr result (LoadCause before.told before.faults now.faults)
-  pub told : now.told ≡ before.told
-  pub around : now.around ≡ before.around
-  pub later : before.faults ≤ now.faults
-  pub calm : OnOk result (now.faults ≡ before.faults)
+passes_within : (told : Option FileMap) (new : Seen) → (IsTold told → passed (look_in told) nothing (load_steps (look_in told)) ≡ Ok new) → IfSome told (λ files. PassesWithin files new.found)
+unfolding look_in
+passes_within None new went = tt
+passes_within (Some files) new went = record { seen = new; passes = went refl; loads = loaded (look_of files) new (repository (look_of files)) (went refl) refl; within = omega arith }
 
-pub loads : {T : Type 0} (see : T → View) (before now : T) (start new : Seen) (result : Result Repo LoadFault) → start ≡ nothing →
-    Reads see before now (λ look. load_steps look) (λ look repo. repo ≡ repository look) start new result → Loads (see before) (see now) result
-loads see before now start new (Ok repo) none one =
-    let here = subst (λ (s : Seen). HasRead (see before) (see now) (λ look. load_steps look) (λ look. repo ≡ repository look) s new) none one in
-    let calm : (see now).faults ≡ (see before).faults = ap (λ (v : View). v.faults) one.same in
-    record {
-      repo = as_told (see before).told new repo here.passed here.value;
-      cause = tt;
-      told = ap (λ (v : View). v.told) one.same;
-      around = ap (λ (v : View). v.around) one.same;
-      later = omega (arith, calm);
-      calm = calm;
-    }
-loads see before now start new (Err fault) none ended = record {
-  repo = tt;
-  cause = load_cause (see before).told (see before).faults (see now).faults fault
-      (subst (λ (s : Seen). Cause (see before).told (see before).faults (see now).faults (passed (look_in (see before).told) s (load_steps (look_in (see before).told))) fault) none ended.cause);
-  told = ended.told;
-  around = ended.around;
-  later = ended.later;
-  calm = tt;
-}
+-- what a load tells, by what its reading tells
+module _ {before now : View} {start : Seen} (none : start ≡ nothing) where
+  pub repo_told : {new : Seen} (repo : Repo) → HasRead before now (λ look. load_steps look) (λ look. repo ≡ repository look) start new → IfSome before.told (λ files. loading (look_of files) ≡ Ok repo)
+  repo_told {new = new} repo one =
+      let here = subst (λ (s : Seen). HasRead before now (λ look. load_steps look) (λ look. repo ≡ repository look) s new) none one in
+      as_told before.told new repo here.passed here.value
+
+  pub passes_told : {new : Seen} (repo : Repo) (found : ℕ) → found ≡ new.found → HasRead before now (λ look. load_steps look) (λ look. repo ≡ repository look) start new →
+      IfSome before.told (λ files. PassesWithin files found)
+  passes_told {new = new} repo found is one =
+      let here = subst (λ (s : Seen). HasRead before now (λ look. load_steps look) (λ look. repo ≡ repository look) s new) none one in
+      subst (λ n. IfSome before.told (λ files. PassesWithin files n)) (sym is) (passes_within before.told new here.passed)
+
+  pub cause_told : (fault : LoadFault) → HasEnded before now (λ look. load_steps look) start fault → LoadCause before.told before.faults now.faults fault
+  cause_told fault ended =
+      load_cause before.told before.faults now.faults fault
+      (subst (λ (s : Seen). Cause before.told before.faults now.faults (passed (look_in before.told) s (load_steps (look_in before.told))) fault) none ended.cause)

@@ -30,7 +30,7 @@ in_order_are kepts = all_are [] kepts
 
 -- ---- what is put in order ascends
 module _ {K : Type 0} {cmp : K → K → Ordering} (total : IsTotalOrder cmp) where
-  below_all : (k x : K) (ys : List K) → cmp k x ≡ Less → AllByRecursion (λ y. cmp x y ≡ Less) ys → AllByRecursion (λ y. cmp k y ≡ Less) ys
+  pub below_all : (k x : K) (ys : List K) → cmp k x ≡ Less → AllByRecursion (λ y. cmp x y ≡ Less) ys → AllByRecursion (λ y. cmp k y ≡ Less) ys
   below_all k x [] e a = tt
   below_all k x (y ∷ ys) e a = (total.trans k x y e a.0, below_all k x ys e a.1)
 
@@ -43,7 +43,7 @@ module _ {K : Type 0} {cmp : K → K → Ordering} (total : IsTotalOrder cmp) wh
       by Equal h = a
       by Greater h = (a.0, h)
 
-  ascends_put : (ks : List K) (k : K) → IsStrictlySortedBy cmp ks → IsStrictlySortedBy cmp (insert_key cmp ks k)
+  pub ascends_put : (ks : List K) (k : K) → IsStrictlySortedBy cmp ks → IsStrictlySortedBy cmp (insert_key cmp ks k)
   unfolding IsStrictlySortedBy
   ascends_put [] k a = (tt, tt)
   ascends_put (x ∷ xs) k a = by (cmp k x) refl (ascends_put xs k a.1)
@@ -61,7 +61,7 @@ module _ {K : Type 0} {cmp : K → K → Ordering} (total : IsTotalOrder cmp) wh
   unfolding IsStrictlySortedBy
   all_ascend xs = ascends_all [] xs tt
 
-pkgs_ascend : (ms : List Member) → IsStrictlySortedBy member_cmp ms → AreInPackageOrder (map pkg_of ms)
+pub pkgs_ascend : (ms : List Member) → IsStrictlySortedBy member_cmp ms → AreInPackageOrder (map pkg_of ms)
 unfolding IsStrictlySortedBy
 pkgs_ascend [] a = tt
 pkgs_ascend (m ∷ ms) a = (all_of m ms a.0, pkgs_ascend ms a.1)

@@ -99,10 +99,10 @@ of_pf listed category pf = by (has_text listed pf)
     by true = refl
     by false = refl
 
-abbrev paths_in : Look → List ℕ → List (List ℕ)
+abbrev pub paths_in : Look → List ℕ → List (List ℕ)
 paths_in look category = flat_map (λ pf. paths_by (has_text (listed look category) pf) category pf) (pfs_of look category)
 
-of_pfs : (listed : List (List ℕ)) (category : List ℕ) (pfs : List (List ℕ)) → once_paths (pfs_steps listed category pfs) ≡ flat_map (λ pf. paths_by (has_text listed pf) category pf) pfs
+pub of_pfs : (listed : List (List ℕ)) (category : List ℕ) (pfs : List (List ℕ)) → once_paths (pfs_steps listed category pfs) ≡ flat_map (λ pf. paths_by (has_text listed pf) category pf) pfs
 of_pfs listed category [] = refl
 of_pfs listed category (pf ∷ pfs) =
     filter_map-append once_path (pf_steps listed category pf) (pfs_steps listed category pfs)
@@ -126,7 +126,7 @@ of_eclasses : (names : List (List ℕ)) → once_paths (eclass_steps names) ≡ 
 of_eclasses [] = refl
 of_eclasses (name ∷ names) = ap (λ ps. eclass_path name ∷ ps) (of_eclasses names)
 
-of_packages : (look : Look) (all : List (List ℕ)) → once_paths (packages_steps look all) ≡ flat_map (paths_in look) all ++ map eclass_path (eclass_names (all_reads look all))
+pub of_packages : (look : Look) (all : List (List ℕ)) → once_paths (packages_steps look all) ≡ flat_map (paths_in look) all ++ map eclass_path (eclass_names (all_reads look all))
 of_packages look all =
     filter_map-append once_path (categories_steps look all) (eclass_steps (eclass_names (all_reads look all)))
     ∙ ap (λ ps. ps ++ once_paths (eclass_steps (eclass_names (all_reads look all)))) (of_categories look all)
@@ -145,7 +145,7 @@ all_by_members test [] passes = refl
 all_by_members test (x ∷ xs) passes =
     both (test x) (list_all test xs) (passes x (itself x xs)) (all_by_members test xs (λ y is. passes y (or_right (bytes_eq y x) (has_text xs y) is)))
 
-member_passes : (test : List ℕ → Bool) (xs : List (List ℕ)) → list_all test xs ≡ true → (x : List ℕ) → has_text xs x ≡ true → test x ≡ true
+pub member_passes : (test : List ℕ → Bool) (xs : List (List ℕ)) → list_all test xs ≡ true → (x : List ℕ) → has_text xs x ≡ true → test x ≡ true
 member_passes test [] are x there = cc
 member_passes test (y ∷ ys) are x there =
     let parts = and_parts (test y) (list_all test ys) are in
@@ -168,7 +168,7 @@ good_lines : (lines : List (List ℕ)) → list_all is_category (filter_map (λ 
 good_lines [] = refl
 good_lines (line ∷ lines) = good_word (line_words line) (filter_map (λ l. category_in (line_words l)) lines) (good_lines lines)
 
-all_categories : InOrderLaw → (bytes : List ℕ) → list_all is_category (categories_in bytes) ≡ true
+pub all_categories : InOrderLaw → (bytes : List ℕ) → list_all is_category (categories_in bytes) ≡ true
 all_categories law bytes =
     let found = filter_map (λ line. category_in (line_words line)) (file_lines bytes) in
     all_by_members is_category (in_order found) (λ x there. member_passes is_category found (good_lines (file_lines bytes)) x (law.members found x ∙ there))
@@ -205,8 +205,14 @@ module _ (order : InOrderLaw) (division : (bytes : List ℕ) → IsDivided bytes
       two_apart (λ x. not (is_eclass x)) (flat_map (paths_in look) cs) (map eclass_path names) (all_groups (λ x. not (is_eclass x)) (paths_in look) is_category no_eclass cs are) (all_are_eclasses names)
       (groups_apart category_at (paths_in look) is_category of_one one_distinct cs are dc) (map_distinct eclass_path eclass_at eclass_back names dn)
 
+paths_distinct : InOrderLaw → ((bytes : List ℕ) → IsDivided bytes) → (look : Look) → AreDistinct (flat_map (paths_in look) (categories look) ++ map eclass_path (eclass_names (all_reads look (categories look))))
+paths_distinct order division look =
+    all_distinct order division look (categories look) (eclass_names (all_reads look (categories look))) (all_categories order (text_at look categories_path))
+    (ordered_distinct order (filter_map (λ line. category_in (line_words line)) (file_lines (text_at look categories_path)))) (ordered_distinct order (flat_map names_in (all_reads look (categories look))))
+
 pub read_once : InOrderLaw → ((bytes : List ℕ) → IsDivided bytes) → OnceLaw
-read_once order division look =
-    subst AreDistinct (sym (of_all look))
-    (all_distinct order division look (categories look) (eclass_names (all_reads look (categories look))) (all_categories order (text_at look categories_path))
-    (ordered_distinct order (filter_map (λ line. category_in (line_words line)) (file_lines (text_at look categories_path)))) (ordered_distinct order (flat_map names_in (all_reads look (categories look)))))
+read_once order division look = subst AreDistinct (sym (of_all look)) (paths_distinct order division look)
+
+-- of the packages alone
+pub packages_once : InOrderLaw → ((bytes : List ℕ) → IsDivided bytes) → (look : Look) → AreDistinct (once_paths (packages_steps look (categories look)))
+packages_once order division look = subst AreDistinct (sym (of_packages look (categories look))) (paths_distinct order division look)

@@ -17,7 +17,7 @@ none_at_all text is = ap slashes (sym (nil text)) ∙ none_in text [] is
     nil [] = refl
     nil (x ∷ xs) = ap (λ ys. x ∷ ys) (nil xs)
 
-front_is : (front end : List ℕ) → take (length front) (front ++ end) ≡ front
+pub front_is : (front end : List ℕ) → take (length front) (front ++ end) ≡ front
 front_is [] end = refl
 front_is (b ∷ bs) end = ap (λ t. b ∷ t) (front_is bs end)
 
@@ -34,7 +34,7 @@ entry_slashes : (category pf : List ℕ) → is_plain category ≡ true → is_p
 unfolding cache_dir
 entry_slashes category pf pc pp = ap (λ n. suc (suc n)) (none_in category (47 ∷ pf) pc) ∙ ap (λ n. suc (suc (suc n))) (none_at_all pf pp)
 
-plain_file : (pf : List ℕ) → is_plain pf ≡ true → is_plain (pf ++ ebuild_end) ≡ true
+pub plain_file : (pf : List ℕ) → is_plain pf ≡ true → is_plain (pf ++ ebuild_end) ≡ true
 unfolding ebuild_end
 plain_file pf pp = plain_both pf (codes ".ebuild") pp refl
 

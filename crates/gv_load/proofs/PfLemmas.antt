@@ -31,12 +31,12 @@ read_if look b category pf = record {
   ebuild = digest_at look (ebuild_path category (name_of pf) pf);
 }
 
-same_steps : (xs ys : List (List ℕ)) (category : List ℕ) (pfs : List (List ℕ)) → ((text : List ℕ) → has_text xs text ≡ has_text ys text) → pfs_steps xs category pfs ≡ pfs_steps ys category pfs
+pub same_steps : (xs ys : List (List ℕ)) (category : List ℕ) (pfs : List (List ℕ)) → ((text : List ℕ) → has_text xs text ≡ has_text ys text) → pfs_steps xs category pfs ≡ pfs_steps ys category pfs
 same_steps xs ys category [] same = refl
 same_steps xs ys category (p ∷ ps) same =
     ap (λ b. steps_if b category p ++ pfs_steps xs category ps) (same p) ∙ ap (λ (ss : List Step). pf_steps ys category p ++ ss) (same_steps xs ys category ps same)
 
-same_reads : (look : Look) (xs ys : List (List ℕ)) (category : List ℕ) (pfs : List (List ℕ)) → ((text : List ℕ) → has_text xs text ≡ has_text ys text) → map (pf_read look xs category) pfs ≡ map (pf_read look ys category) pfs
+pub same_reads : (look : Look) (xs ys : List (List ℕ)) (category : List ℕ) (pfs : List (List ℕ)) → ((text : List ℕ) → has_text xs text ≡ has_text ys text) → map (pf_read look xs category) pfs ≡ map (pf_read look ys category) pfs
 same_reads look xs ys category [] same = refl
 same_reads look xs ys category (p ∷ ps) same =
     ap (λ b. read_if look b category p ∷ map (pf_read look xs category) ps) (same p) ∙ ap (λ (rs : List PfRead). pf_read look ys category p ∷ rs) (same_reads look xs ys category ps same)

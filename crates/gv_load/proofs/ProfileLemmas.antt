@@ -38,19 +38,19 @@ same_notes look r (x ∷ xs) keeps within =
     ap (λ (o : Option DirFiles). notes_at x o ++ notes_in (get r.dirs) xs) here
     ∙ ap (λ (ns : List PlaceNote). notes_at x (dir_at look x) ++ ns) (same_notes look r xs keeps (λ path is. within path (or_right (bytes_eq path x) (has_text xs path) is)))
 
-abbrev with_notes : Folds → List PlaceNote → Profiled
-with_notes folds notes = record { profiles = folds.profiles; errors = folds.errors; notes = notes }
+abbrev with_notes : Folds → List PlaceNote → List (List ℕ) → Profiled
+with_notes folds notes directories = record { profiles = folds.profiles; errors = folds.errors; notes = notes; directories = directories }
 
-abbrev of_three : List Profile → List PlaceNote → List PlaceNote → Profiled
-of_three profiles errors notes = record { profiles = profiles; errors = errors; notes = notes }
+abbrev of_four : List Profile → List PlaceNote → List PlaceNote → List (List ℕ) → Profiled
+of_four profiles errors notes directories = record { profiles = profiles; errors = errors; notes = notes; directories = directories }
 
 pub profiled_is : (look : Look) (r : Reached) (masks : List NamedFile) (lines : List DescLine) (folds : Folds) (p : Profiled) → KeepsDirs look r → HaveSameStacks (get r.dirs) (dir_at look) lines → r.order ≡ reached look lines →
-    folds.profiles ≡ filter_map (profile_at (get r.dirs) masks) lines → folds.errors ≡ filter_map (error_at (get r.dirs)) lines → p ≡ with_notes folds (notes_in (get r.dirs) r.order) → p ≡ profiled_of look masks lines
+    folds.profiles ≡ filter_map (profile_at (get r.dirs) masks) lines → folds.errors ≡ filter_map (error_at (get r.dirs)) lines → p ≡ with_notes folds (notes_in (get r.dirs) r.order) r.order → p ≡ profiled_of look masks lines
 profiled_is look r masks lines folds p keeps stacks order profiles errors is =
-    is ∙ ap (λ ps. of_three ps folds.errors (notes_in (get r.dirs) r.order)) (profiles ∙ stacks.profiles masks)
-    ∙ ap (λ es. of_three (filter_map (profile_at (dir_at look) masks) lines) es (notes_in (get r.dirs) r.order)) (errors ∙ stacks.errors)
-    ∙ ap (λ ns. of_three (filter_map (profile_at (dir_at look) masks) lines) (filter_map (error_at (dir_at look)) lines) ns)
-    (same_notes look r r.order keeps (λ path there. there) ∙ ap (notes_in (dir_at look)) order)
+    is ∙ ap (λ ps. of_four ps folds.errors (notes_in (get r.dirs) r.order) r.order) (profiles ∙ stacks.profiles masks)
+    ∙ ap (λ es. of_four (filter_map (profile_at (dir_at look) masks) lines) es (notes_in (get r.dirs) r.order) r.order) (errors ∙ stacks.errors)
+    ∙ ap (λ ns. of_four (filter_map (profile_at (dir_at look) masks) lines) (filter_map (error_at (dir_at look)) lines) ns r.order) (same_notes look r r.order keeps (λ path there. there))
+    ∙ ap (λ ds. of_four (filter_map (profile_at (dir_at look) masks) lines) (filter_map (error_at (dir_at look)) lines) (notes_in (dir_at look) ds) ds) order
 
 -- ---- the steps
 module _ {before now : View} {old : Seen} {lines : List DescLine} {r : Reached} where

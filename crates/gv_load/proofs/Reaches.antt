@@ -100,15 +100,15 @@ same r = ([], sym (append-nil r))
 through : (a b c : List (List ℕ)) → Begins a b → Begins b c → Begins a c
 through a b c ab bc = (ab.0 ++ bc.0, bc.1 ∙ ap (λ x. x ++ bc.0) ab.1 ∙ append_assoc a ab.0 bc.0)
 
-folded : (go : List (List ℕ) → List ℕ → List (List ℕ)) → ((r : List (List ℕ)) (p : List ℕ) → Begins r (go r p)) → (r ps : List (List ℕ)) → Begins r (fold go r ps)
+pub folded : (go : List (List ℕ) → List ℕ → List (List ℕ)) → ((r : List (List ℕ)) (p : List ℕ) → Begins r (go r p)) → (r ps : List (List ℕ)) → Begins r (fold go r ps)
 folded go grows r [] = same r
 folded go grows r (p ∷ ps) = through r (go r p) (fold go (go r p) ps) (grows r p) (folded go grows (go r p) ps)
 
-parents_grow : (go : List (List ℕ) → List ℕ → List (List ℕ)) → ((s : List (List ℕ)) (p : List ℕ) → Begins s (go s p)) → (r : List (List ℕ)) (dir : List ℕ) (o : Option DirFiles) → Begins r (with_parents go r dir o)
+pub parents_grow : (go : List (List ℕ) → List ℕ → List (List ℕ)) → ((s : List (List ℕ)) (p : List ℕ) → Begins s (go s p)) → (r : List (List ℕ)) (dir : List ℕ) (o : Option DirFiles) → Begins r (with_parents go r dir o)
 parents_grow go grows r dir None = same r
 parents_grow go grows r dir (Some files) = folded go grows r (paths_of dir files)
 
-reach_grows : (depth : ℕ) (dirs : Dirs) (r : List (List ℕ)) (dir : List ℕ) → Begins r (reach depth dirs r dir)
+pub reach_grows : (depth : ℕ) (dirs : Dirs) (r : List (List ℕ)) (dir : List ℕ) → Begins r (reach depth dirs r dir)
 reach_grows zero dirs r dir = same r
 reach_grows (suc depth) dirs r dir =
     elim (has_text r dir) as (λ b. Begins r (if b then r else with_parents (reach depth dirs) (r ++ dir ∷ []) dir (dirs dir))) [

@@ -233,14 +233,15 @@ same_limit here there (line ∷ lines) same =
     ap (λ (f : Option ProfileFault). option_or (limit_of line f) (first_limit here lines)) same.0.0
     ∙ ap (option_or (limit_at there line)) (same_limit here there lines same.1)
 
-pub same_stacks : (look : looks.Look) (reached : Reached) (lines : List DescLine) → KeepsDirs look reached → IsClosed (dir_at look) reached.order → reached.order ≡ reached_by (dir_at look) [] lines →
-    HaveSameStacks (get reached.dirs) (dir_at look) lines
-same_stacks look reached lines keeps closed is =
-    let here = get reached.dirs in
-    let there = dir_at look in
-    let same = stacks_same reached.order here there (kept_agree look reached keeps) closed lines (subst (λ (ds : List (List ℕ)). Starts ds lines) (sym is) (lines_start there [] lines)) in
+pub stacks_over : (here there : Look) (reached : List (List ℕ)) (lines : List DescLine) → AgreeOn reached here there → IsClosed there reached → reached ≡ reached_by there [] lines → HaveSameStacks here there lines
+stacks_over here there reached lines agree closed is =
+    let same = stacks_same reached here there agree closed lines (subst (λ (ds : List (List ℕ)). Starts ds lines) (sym is) (lines_start there [] lines)) in
     record {
       profiles = λ first. same_profiles here there first lines same;
       errors = same_errors here there lines same;
       limit = same_limit here there lines same;
     }
+
+pub same_stacks : (look : looks.Look) (reached : Reached) (lines : List DescLine) → KeepsDirs look reached → IsClosed (dir_at look) reached.order → reached.order ≡ reached_by (dir_at look) [] lines →
+    HaveSameStacks (get reached.dirs) (dir_at look) lines
+same_stacks look reached lines keeps closed is = stacks_over (get reached.dirs) (dir_at look) reached.order lines (kept_agree look reached keeps) closed is

@@ -132,7 +132,7 @@ plain_version text is =
     subst (λ t. is_plain t ≡ true) ((bytes_eq-Decides (version_text (parts_of text)) text).0 parts.1) (plain_parts text parts.0)
 
 -- ---- a PF
-behind_byte : (front : List ℕ) (b : ℕ) (end : List ℕ) → drop (suc (length front)) (front ++ b ∷ end) ≡ end
+pub behind_byte : (front : List ℕ) (b : ℕ) (end : List ℕ) → drop (suc (length front)) (front ++ b ∷ end) ≡ end
 behind_byte [] b end = refl
 behind_byte (x ∷ xs) b end = behind_byte xs b end
 
@@ -172,7 +172,7 @@ abbrev pub slashes : List ℕ → ℕ
 slashes [] = 0
 slashes (b ∷ bs) = if b == 47 then suc (slashes bs) else slashes bs
 
-passed_over : {X : Type 0} (e : Bool) (x y : X) → not e ≡ true → (if e then x else y) ≡ y
+pub passed_over : {X : Type 0} (e : Bool) (x y : X) → not e ≡ true → (if e then x else y) ≡ y
 passed_over true x y is = cc
 passed_over false x y is = refl
 

@@ -2,10 +2,14 @@ pub mod Ahead
 pub mod Categories
 pub mod Causes
 pub mod Closed
+pub mod Counting
 pub mod DigestWords
 pub mod Directories
 pub mod EclassDigests
+pub mod EditKeys
 pub mod Entries
+pub mod EntriesPass
+pub mod EntryEdits
 pub mod Faults
 pub mod Freshness
 pub mod Layout
@@ -22,6 +26,8 @@ pub mod Paths
 pub mod Reaching
 pub mod Reader
 pub mod Reading
+pub mod Replacing
 pub mod Repository
+pub mod Rereading
 pub mod StackLimits
 pub mod Stacks

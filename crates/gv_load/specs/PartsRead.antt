@@ -52,6 +52,7 @@ profiled_of look masks lines = record {
   profiles = filter_map (profile_at (dir_at look) masks) lines;
   errors = filter_map (error_at (dir_at look)) lines;
   notes = notes_in (dir_at look) (reached look lines);
+  directories = reached look lines;
 }
 
 -- the names among a category's entries are kept as a set, and its PFs as a list
@@ -71,5 +72,7 @@ repo_with lists profiled kepts = record {
   bodies = map body_of (in_package_order (members_in kepts));
   profiles = profiled.profiles;
   lines = lists.lines;
+  categories = lists.categories;
+  directories = profiled.directories;
   notes = notes_with lists profiled kepts;
 }

@@ -20,7 +20,7 @@ use Rattle.gv_load.specs.declared.loading.Repo.{Repo}
 use Rattle.gv_load.specs.declared.members.Member.{Member}
 use Rattle.gv_load.specs.Look.{Look}
 use Rattle.gv_load.specs.Notes.{repository_notes}
-use Rattle.gv_load.specs.Order.{desc_lines, categories}
+use Rattle.gv_load.specs.Order.{desc_lines, categories, reached}
 use Rattle.gv_load.specs.Paths.{mask_path}
 use Rattle.gv_load.specs.Stacks.{profile_at}
 
@@ -74,5 +74,7 @@ repository look = record {
   bodies = map body_of (members look);
   profiles = filter_map (profile_at (dir_at look) (files_at look mask_path)) (desc_lines look);
   lines = desc_lines look;
+  categories = categories look;
+  directories = reached look (desc_lines look);
   notes = repository_notes look;
 }

@@ -86,7 +86,7 @@ fn hyphen_of(name: &[u8]) -> Result<Option<u32>, NoMemory>
     }
 }
 
-fn is_pf(name: &[u8]) -> Result<bool, NoMemory>
+pub(crate) fn is_pf(name: &[u8]) -> Result<bool, NoMemory>
     ensures { IfOk result (λ is. is ≡ is_pf name.now) }
 {
     match hyphen_of(name) {
@@ -106,7 +106,8 @@ fn front(bytes: &[u8], at: usize) -> &[u8]
     }
 }
 
-fn behind(bytes: &[u8], at: usize) -> &[u8]
+/// What lies behind the byte at this place.
+pub(crate) fn behind(bytes: &[u8], at: usize) -> &[u8]
     ensures { result.now ≡ drop (at + 1) bytes.now }
 {
     if at < bytes.len() {
@@ -127,7 +128,7 @@ fn version_in(pf: &[u8]) -> Result<&[u8], NoMemory>
     }
 }
 
-fn pfs_among(alloc: Global, names: &Texts) -> Result<Texts, NoMemory>
+pub(crate) fn pfs_among(alloc: Global, names: &Texts) -> Result<Texts, NoMemory>
     ensures { IfOk result (λ pfs. pfs ≡ filter is_pf names.now) }
 {
     let mut pfs = Texts::new(alloc);
@@ -260,7 +261,7 @@ fn list_packages<T: Tree>(
 }
 
 // The same texts, as a set.
-fn set_of(alloc: Global, texts: &Texts) -> Result<BTreeSet<Text>, NoMemory>
+pub(crate) fn set_of(alloc: Global, texts: &Texts) -> Result<BTreeSet<Text>, NoMemory>
     ensures { IfOk result (λ set. (text : List ℕ) → has_text set.keys text ≡ has_text texts.now text) }
 {
     let mut set = BTreeSet::new(alloc);

@@ -106,7 +106,7 @@ fn add_names(alloc: Global, names: &mut Texts, eclasses: &Eclasses) -> Result<()
     Ok(())
 }
 
-fn add_readable(
+pub(crate) fn add_readable(
     alloc: Global,
     names: &mut Texts,
     eclasses: &Option<Eclasses>,

@@ -1,4 +1,6 @@
-//! A law of the steps of a load: the function does nothing, and its contract holds of all trees.
+//! Laws of loads: each function does nothing, and its contract holds of all trees.
+ghost use Rattle.gv_load.specs.EntriesPass.{EclassesFitLaw, EntriesPassLaw};
+ghost use Rattle.gv_load.specs.EntryEdits.{EntriesLaw};
 ghost use Rattle.gv_load.specs.Once.{OnceLaw};
 
 use gv_base::in_order_law;
@@ -11,3 +13,24 @@ pub fn once_law()
     in_order_law();
     split_pf_law();
 }
+
+/// What an edit of entries can change: packages whose entries are edited, and what is noted of these.
+pub fn entries_law()
+    ensures { EntriesLaw }
+{
+    in_order_law();
+    split_pf_law();
+}
+
+/// Edited entries don't keep a load from passing, where there is room for what they may name.
+pub fn entries_pass_law()
+    ensures { EntriesPassLaw }
+{
+    in_order_law();
+    split_pf_law();
+}
+
+/// The eclasses that a load read have short paths and small files.
+pub fn eclasses_fit_law()
+    ensures { EclassesFitLaw }
+{}

@@ -9,7 +9,10 @@
 //! - `categories`, `entries`: the PFs of a category, and what is read of each.
 //! - `eclasses`, `freshness`, `packages`: the digests of eclasses, whether an entry is current, and what each PF is.
 //! - `members`, `notes`: packages in their order, and the reports of what isn't one.
-//! - `laws`: each path is read once.
+//! - `entry_paths`, `entry_edits`, `replacing`: which paths are those of entries, edited ones, and a repository after such edits, put
+//!   together of two.
+//! - `edited_reads`, `rereading`: edited entries read anew, and a repository after such edits for which only these are read.
+//! - `laws`: each path is read once, and what edits of entries change.
 //!
 //! The crate stands on `gv_base` for trees, `gv_profile` for profiles, `gv_entry` for entries and `gv_report` for reports.
 //! Layers above use `load` by its clause `repo`: over a tree that tells its files the result is `loading` of these.
@@ -18,7 +21,10 @@
 mod categories;
 mod directories;
 mod eclasses;
+mod edited_reads;
 mod entries;
+mod entry_edits;
+mod entry_paths;
 mod faults;
 mod freshness;
 mod laws;
@@ -33,9 +39,15 @@ mod packages;
 mod paths;
 mod reaching;
 mod reader;
+mod replacing;
+mod rereading;
 mod stacks;
 
+pub use entry_edits::EntryEdits;
+pub use entry_paths::{is_entry, is_in_metadata};
 pub use faults::LoadFault;
-pub use laws::once_law;
-pub use loading::{Repo, load};
-pub use members::Bodies;
+pub use laws::{eclasses_fit_law, entries_law, entries_pass_law, once_law};
+pub use loading::{Loaded, Repo, load, load_counted};
+pub use members::{Bodies, Member};
+pub use replacing::{Changed, with_entries};
+pub use rereading::{Reread, reread_entries};

@@ -15,7 +15,7 @@ use crate::lists::add_notes;
 use crate::reaching::{Reached, read_dirs};
 use crate::reader::Reader;
 use crate::stacks::{Folds, fold_lines};
-use gv_base::{NoMemory, Text, Tree};
+use gv_base::{NoMemory, Text, Texts, Tree};
 use gv_facts::Profiles;
 use gv_profile::{DescLines, Dirs, NamedFiles, PlaceNotes, dir_notes};
 use std::alloc::Global;
@@ -29,6 +29,8 @@ pub(crate) struct Profiled {
     pub errors: PlaceNotes,
     /// The bad lines of all directories that were read.
     pub notes: PlaceNotes,
+    /// Their paths, in the order in which they were read.
+    pub directories: Texts,
 }
 
 /// Reads the directories that the lines reach, and folds their stacks over the repository's own masks.
@@ -46,7 +48,7 @@ pub(crate) fn read_profiles<T: Tree>(
 {
     let reached = read_dirs(alloc, reader, tree, names, lines)?;
     let folds = fold_lines(alloc, &reached.dirs, masks, lines)?;
-    Ok(with_notes(alloc, folds, &reached)?)
+    Ok(with_notes(alloc, folds, reached)?)
 }
 
 fn add_dir_notes(
@@ -77,14 +79,15 @@ fn notes_in(alloc: Global, reached: &Reached) -> Result<PlaceNotes, NoMemory>
     Ok(notes)
 }
 
-fn with_notes(alloc: Global, folds: Folds, reached: &Reached) -> Result<Profiled, NoMemory>
-    ensures { IfOk result (λ p. p ≡ record { profiles = folds.profiles; errors = folds.errors; notes = notes_in (finite.get reached.now.dirs) reached.now.order }) }
+fn with_notes(alloc: Global, folds: Folds, reached: Reached) -> Result<Profiled, NoMemory>
+    ensures { IfOk result (λ p. p ≡ record { profiles = folds.profiles; errors = folds.errors; notes = notes_in (finite.get reached.dirs) reached.order; directories = reached.order }) }
 {
     let Folds { profiles, errors } = folds;
-    let notes = notes_in(alloc, reached)?;
+    let notes = notes_in(alloc, &reached)?;
     Ok(Profiled {
         profiles,
         errors,
         notes,
+        directories: reached.order,
     })
 }

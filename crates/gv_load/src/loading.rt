@@ -5,6 +5,8 @@
 //! kept, and of ebuilds and eclasses their digests.
 ghost use Rattle.std.specs.Prelude.{◌≡◌, ◌≤◌, Ok, length, IfOk, IfErr, IfSome, OnOk};
 ghost use Rattle.gv_load.specs.Causes.{Knows, Reads, view};
+ghost use Rattle.gv_load.specs.EntriesPass.{PassesWithin};
+ghost use Rattle.gv_load.specs.EntryEdits.{AreClassless};
 ghost use Rattle.gv_load.specs.Layout.{layout};
 ghost use Rattle.gv_load.specs.Loading.{LoadCause, loading};
 ghost use Rattle.gv_load.specs.Look.{look_of};
@@ -21,7 +23,7 @@ use crate::members::{Bodies, packages_in};
 use crate::notes::{add_pfs, add_places};
 use crate::packages::read_packages;
 use crate::reader::Reader;
-use gv_base::{NoMemory, Tree};
+use gv_base::{NoMemory, Texts, Tree};
 use gv_facts::{Pkgs, Profiles};
 use gv_profile::DescLines;
 use gv_report::{Keyword, Reports};
@@ -38,9 +40,20 @@ pub struct Repo {
     pub profiles: Profiles,
     /// The lines of `profiles/profiles.desc` that count.
     pub lines: DescLines,
+    /// The categories, in byte order.
+    pub categories: Texts,
+    /// The paths that the lines reach by parents, in the order in which they are read.
+    pub directories: Texts,
     /// What is told of profiles and entries: bad lines, stacks with a fault, errors of current entries, and PFs that are
     /// stale, orphans or missing.
     pub notes: Reports,
+}
+
+/// A repository, and how many files its load found.
+#[derive(Drop)]
+pub struct Loaded {
+    pub repo: Repo,
+    pub found: u64,
 }
 
 /// The repository that stands in a tree, or the first refusal in reading order.
@@ -53,6 +66,27 @@ pub fn load<T: Tree>(alloc: Global, tree: &mut T) -> Result<Repo, LoadFault>
     ensures repo { IfOk result (λ repo. IfSome (T.files tree.old) (λ files. loading (look_of files) ≡ Ok repo)) }
     ensures bodies { IfOk result (λ repo. length repo.bodies ≡ length repo.pkgs) }
     ensures order { IfOk result (λ repo. AreInPackageOrder repo.pkgs) }
+    ensures classless { IfOk result (λ repo. AreClassless repo.notes) }
+    ensures cause { IfErr result (LoadCause (T.files tree.old) (T.faults tree.old) (T.faults tree.new)) }
+    ensures files { T.files tree.new ≡ T.files tree.old }
+    ensures root { T.entered tree.new ≡ T.entered tree.old }
+    ensures lent { T.lent tree.new ≡ T.lent tree.old }
+    ensures later { T.faults tree.old ≤ T.faults tree.new }
+    ensures calm { OnOk result (T.faults tree.new ≡ T.faults tree.old) }
+{
+    match load_counted(alloc, tree) {
+        Ok(loaded) => Ok(loaded.repo),
+        Err(fault) => Err(fault),
+    }
+}
+
+/// The same, with the number of files that were found.
+pub fn load_counted<T: Tree>(alloc: Global, tree: &mut T) -> Result<Loaded, LoadFault>
+    ensures repo { IfOk result (λ loaded. IfSome (T.files tree.old) (λ files. loading (look_of files) ≡ Ok loaded.repo)) }
+    ensures found { IfOk result (λ loaded. IfSome (T.files tree.old) (λ files. PassesWithin files loaded.found)) }
+    ensures bodies { IfOk result (λ loaded. length loaded.repo.bodies ≡ length loaded.repo.pkgs) }
+    ensures order { IfOk result (λ loaded. AreInPackageOrder loaded.repo.pkgs) }
+    ensures classless { IfOk result (λ loaded. AreClassless loaded.repo.notes) }
     ensures cause { IfErr result (LoadCause (T.files tree.old) (T.faults tree.old) (T.faults tree.new)) }
     ensures files { T.files tree.new ≡ T.files tree.old }
     ensures root { T.entered tree.new ≡ T.entered tree.old }
@@ -63,7 +97,13 @@ pub fn load<T: Tree>(alloc: Global, tree: &mut T) -> Result<Repo, LoadFault>
     let paths = top_paths(alloc)?;
     let names = dir_names(alloc)?;
     let mut reader = Reader::new(alloc);
-    read_repo(alloc, &mut reader, tree, &paths, &names)
+    match read_repo(alloc, &mut reader, tree, &paths, &names) {
+        Ok(repo) => Ok(Loaded {
+            repo,
+            found: reader.found(),
+        }),
+        Err(fault) => Err(fault),
+    }
 }
 
 // Reads the lists, the profiles and the packages.
@@ -80,6 +120,7 @@ fn read_repo<T: Tree>(
     ensures reads { Reads (view T.files T.faults T.entered T.lent) tree.old tree.new (λ look. load_steps look) (λ look value. value ≡ repository look) reader.old reader.new result }
     ensures bodies { IfOk result (λ repo. length repo.bodies ≡ length repo.pkgs) }
     ensures order { IfOk result (λ repo. AreInPackageOrder repo.pkgs) }
+    ensures classless { IfOk result (λ repo. AreClassless repo.notes) }
 {
     let lists = read_lists(alloc, reader, tree, paths)?;
     let profiled = read_profiles(alloc, reader, tree, names, &lists.masks, &lists.lines)?;
@@ -87,6 +128,7 @@ fn read_repo<T: Tree>(
     Ok(repo_with(alloc, lists, profiled, kepts)?)
 }
 
+#[tactic(auto, using(crate::proofs::NoteClasses::of_parts))]
 fn repo_with(
     alloc: Global,
     lists: Lists,
@@ -96,6 +138,7 @@ fn repo_with(
     ensures repo { IfOk result (λ repo. repo ≡ repo_with lists profiled kepts) }
     ensures bodies { IfOk result (λ repo. length repo.bodies ≡ length repo.pkgs) }
     ensures order { IfOk result (λ repo. AreInPackageOrder repo.pkgs) }
+    ensures classless { IfOk result (λ repo. AreClassless repo.notes) }
 {
     let notes = notes_with(alloc, &lists, &profiled, &kepts)?;
     let packages = packages_in(alloc, kepts)?;
@@ -104,6 +147,8 @@ fn repo_with(
         bodies: packages.bodies,
         profiles: profiled.profiles,
         lines: lists.lines,
+        categories: lists.categories,
+        directories: profiled.directories,
         notes,
     })
 }

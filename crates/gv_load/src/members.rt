@@ -14,9 +14,11 @@ use std::marker::Model;
 
 /// A package with its expressions.
 #[derive(Drop)]
-pub(crate) struct Member {
-    pkg: Pkg,
-    body: Body,
+pub struct Member {
+    /// The package.
+    pub pkg: Pkg,
+    /// What its classes and REQUIRED_USE say.
+    pub body: Body,
 }
 
 impl Member {
@@ -130,6 +132,13 @@ impl Bodies {
         Ok(())
     }
 
+    /// The bodies, in order, given away.
+    pub(crate) fn into_items(self) -> Vec<Body>
+        ensures { result.items ≡ self }
+    {
+        self.items
+    }
+
     /// The bodies, in order.
     pub fn items(&self) -> &[Body]
         ensures { result.now ≡ self.now }
@@ -188,7 +197,8 @@ fn in_order(alloc: Global, kepts: PfsKept) -> Result<BTreeSet<Member>, NoMemory>
     Ok(members)
 }
 
-fn apart(alloc: Global, mut members: BTreeSet<Member>) -> Result<Packages, NoMemory>
+/// The packages in their order, and their bodies.
+pub(crate) fn apart(alloc: Global, mut members: BTreeSet<Member>) -> Result<Packages, NoMemory>
     ensures pkgs { IfOk result (λ packages. packages.pkgs ≡ map pkg_of members.keys) }
     ensures bodies { IfOk result (λ packages. packages.bodies ≡ map body_of members.keys) }
 {

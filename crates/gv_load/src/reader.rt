@@ -53,6 +53,13 @@ impl Reader {
         }
     }
 
+    /// How many files were found.
+    pub fn found(&self) -> u64
+        ensures { result ≡ self.now.found }
+    {
+        self.found
+    }
+
     fn get(&self, path: &[u8]) -> Option<&Found>
         ensures { option_copied result ≡ finite.get self.now.known path.now }
     {
