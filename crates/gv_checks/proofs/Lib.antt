@@ -15,3 +15,14 @@ pub mod SharedLemmas
 pub mod OneLemmas
 pub mod KeyLemmas
 pub mod ViewLemmas
+pub mod TouchedLemmas
+pub mod StaleLemmas
+pub mod DueLemmas
+pub mod Locality
+pub mod RenewalStale
+pub mod RenewalMembers
+pub mod RenewalTold
+pub mod RenewalQueries
+pub mod RenewalLimits
+pub mod RenewalLaw
+pub mod RenewLemmas

@@ -33,7 +33,7 @@ module _ {X : Type 0} (test : X → Bool) where
   at_length [] x xs = refl
   at_length (y ∷ front) x xs = at_length front x xs
 
-  items_from : (front xs : List X) → map (slice_get (front ++ xs)) (places_from (length front) test xs) ≡ map Some (filter test xs)
+  pub items_from : (front xs : List X) → map (slice_get (front ++ xs)) (places_from (length front) test xs) ≡ map Some (filter test xs)
   items_from front [] = refl
   items_from front (x ∷ xs) = by (test x) (at_length front x xs) (shifted (items_from (front ++ x ∷ []) xs))
     where
@@ -52,16 +52,16 @@ module _ {X : Type 0} (test : X → Bool) where
       by false here h = h
 
 -- Atoms: what matches has the category and name.
-front_two : (a b c : Bool) → (a && (b && c)) ≡ true → (a && b) ≡ true
+pub front_two : (a b c : Bool) → (a && (b && c)) ≡ true → (a && b) ≡ true
 front_two true true c h = refl
 front_two true false c h = h
 front_two false b c h = h
 
-any_map : {A B : Type 0} (test : B → Bool) (f : A → B) (xs : List A) → list_any test (map f xs) ≡ list_any (λ x. test (f x)) xs
+pub any_map : {A B : Type 0} (test : B → Bool) (f : A → B) (xs : List A) → list_any test (map f xs) ≡ list_any (λ x. test (f x)) xs
 any_map test f [] = refl
 any_map test f (x ∷ xs) = ap (λ r. test (f x) || r) (any_map test f xs)
 
-any_among : {A : Type 0} (test other : A → Bool) → ((x : A) → test x ≡ true → other x ≡ true) → (xs : List A) → list_any test (filter other xs) ≡ list_any test xs
+pub any_among : {A : Type 0} (test other : A → Bool) → ((x : A) → test x ≡ true → other x ≡ true) → (xs : List A) → list_any test (filter other xs) ≡ list_any test xs
 any_among test other only [] = refl
 any_among test other only (x ∷ xs) = by (other x) refl (test x) refl (any_among test other only xs)
   where
@@ -119,11 +119,11 @@ pub unstated_by_others : (c : Case) (others : List OtherFlags) → others ≡ ma
 unstated_by_others c others e = ap (flat_map (unstated_among c)) e ∙ among_others c (readable_classes c.parent.pkg c.member.body)
 
 -- Selected reports: those of one keyword in one context are selected all or not at all.
-filter_flat : {A : Type 0} (test : Report → Bool) (f : A → List Report) (xs : List A) → filter test (flat_map f xs) ≡ flat_map (λ x. filter test (f x)) xs
+pub filter_flat : {A B : Type 0} (test : B → Bool) (f : A → List B) (xs : List A) → filter test (flat_map f xs) ≡ flat_map (λ x. filter test (f x)) xs
 filter_flat test f [] = refl
 filter_flat test f (x ∷ xs) = filter-append test (f x) (flat_map f xs) ∙ ap (λ rs. filter test (f x) ++ rs) (filter_flat test f xs)
 
-flat_same : {A B : Type 0} (f g : A → List B) → ((x : A) → f x ≡ g x) → (xs : List A) → flat_map f xs ≡ flat_map g xs
+pub flat_same : {A B : Type 0} (f g : A → List B) → ((x : A) → f x ≡ g x) → (xs : List A) → flat_map f xs ≡ flat_map g xs
 flat_same f g e [] = refl
 flat_same f g e (x ∷ xs) = ap (λ rs. rs ++ flat_map f xs) (e x) ∙ ap (λ rs. g x ++ rs) (flat_same f g e xs)
 
@@ -134,7 +134,7 @@ flat_nothing : {A B : Type 0} (xs : List A) → flat_map (nothing {A = A} {B = B
 flat_nothing [] = refl
 flat_nothing (x ∷ xs) = flat_nothing xs
 
-one_kind : {A : Type 0} (test : Report → Bool) (f : A → Report) (b : Bool) → ((x : A) → test (f x) ≡ b) → (xs : List A) → filter test (map f xs) ≡ (if b then map f xs else [])
+pub one_kind : {A : Type 0} (test : Report → Bool) (f : A → Report) (b : Bool) → ((x : A) → test (f x) ≡ b) → (xs : List A) → filter test (map f xs) ≡ (if b then map f xs else [])
 one_kind test f true e [] = refl
 one_kind test f false e [] = refl
 one_kind test f true e (x ∷ xs) = rw (e x) (ap (λ rs. f x ∷ rs) (one_kind test f true e xs))

@@ -20,14 +20,14 @@ use Rattle.gv_checks.specs.Queries.{case_queries, case_queries_all, class_keywor
 use Rattle.gv_checks.specs.RepoReports.{nonsolvable, plain_reports, query_report, query_reports, report_found, reports, unsatisfiable}
 use Rattle.gv_load.specs.declared.loading.Repo.{Repo}
 
-same_some : {X : Type 0} (a b : X) → Some a ≡ Some b → a ≡ b
+pub same_some : {X : Type 0} (a b : X) → Some a ≡ Some b → a ≡ b
 same_some a b e = ap (λ o. unwrap_or o a) e
 
 is_none : {X : Type 0} → Option X → Bool
 is_none None = true
 is_none (Some x) = false
 
-not_none : {X : Type 0} (x : X) → None ≡ Some x → ⊥
+pub not_none : {X : Type 0} (x : X) → None ≡ Some x → ⊥
 not_none x e = false≢true (sym (ap_none e))
   where
     ap_none : None ≡ Some x → true ≡ false

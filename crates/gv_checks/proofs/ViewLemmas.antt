@@ -27,12 +27,12 @@ pub one_of : (pkgs : List Pkg) (profiles : List Profile) (i : ℕ) (x : VisibleP
 one_of pkgs profiles i x at profile same = record { place = i; there = slice_get-get_or profiles i x.profile at.lt ∙ (ap Some (sym at.here) ∙ ap Some (sym same)) }
 
 -- what a profile tells of a package
-pub unjudged_told : (o : Options) (pkgs : List Pkg) (m : Member) (x : VisiblePkgs) (now : List Report) → judged m.pkg x.profile ≡ None → now ≡ now ++ told_in o (case_in pkgs m x.profile)
-unjudged_told o pkgs m x now none = sym (ap (λ d. now ++ told_in o (option_map (case_at pkgs m x.profile) d)) none ∙ append-nil now)
+pub unjudged_told : (o : Options) (pkgs : List Pkg) (m : Member) (profile : Profile) (now : List Report) → judged m.pkg profile ≡ None → now ≡ now ++ told_in o (case_in pkgs m profile)
+unjudged_told o pkgs m profile now none = sym (ap (λ d. now ++ told_in o (option_map (case_at pkgs m profile) d)) none ∙ append-nil now)
 
-pub judged_told : (o : Options) (pkgs : List Pkg) (m : Member) (x : VisiblePkgs) (now next : List Report) (level : Level) (profile : Profile) → profile ≡ x.profile → judged m.pkg x.profile ≡ Some level
-    → {T E : Type 0} (r : Result T E) → OnOk r (next ≡ now ++ told_case o (case_at pkgs m profile level)) → OnOk r (next ≡ now ++ told_in o (case_in pkgs m x.profile))
-judged_told o pkgs m x now next level profile same some r = on_ok r (λ e. e ∙ (ap (λ p. now ++ told_case o (case_at pkgs m p level)) same ∙ sym (ap (λ d. now ++ told_in o (option_map (case_at pkgs m x.profile) d)) some)))
+pub judged_told : (o : Options) (pkgs : List Pkg) (m : Member) (profile : Profile) (now next : List Report) (level : Level) → judged m.pkg profile ≡ Some level
+    → {T E : Type 0} (r : Result T E) → OnOk r (next ≡ now ++ told_case o (case_at pkgs m profile level)) → OnOk r (next ≡ now ++ told_in o (case_in pkgs m profile))
+judged_told o pkgs m profile now next level some r = on_ok r (λ e. e ∙ sym (ap (λ d. now ++ told_in o (option_map (case_at pkgs m profile) d)) some))
 
 module _ (o : Options) (repo : Repo) (m : Member) (views : List VisiblePkgs) (i : ℕ) where
   abbrev told_of : List Profile → List Report

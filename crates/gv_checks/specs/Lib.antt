@@ -5,6 +5,7 @@ pub mod Cases
 pub mod Certs
 pub mod Classes
 pub mod Context
+pub mod Due
 pub mod Keys
 pub mod Limits
 pub mod Named
@@ -12,7 +13,9 @@ pub mod Plain
 pub mod Progress
 pub mod Queries
 pub mod Recalled
+pub mod Renewal
 pub mod RepoReports
 pub mod Shared
+pub mod Touched
 pub mod Unmet
 pub mod Walks

@@ -184,7 +184,8 @@ fn limit_of(alloc: Global, pkg: &Pkg, fault: LowerFault) -> JudgeFault
     }
 }
 
-fn add_report(reports: &mut Reports, report: Option<Report>) -> Result<(), NoMemory>
+/// Adds a report where there is one.
+pub(crate) fn add_report(reports: &mut Reports, report: Option<Report>) -> Result<(), NoMemory>
     ensures { OnOk result (reports.new ≡ reports.old ++ option_to_list report) }
 {
     match report {

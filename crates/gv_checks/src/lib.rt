@@ -13,12 +13,17 @@
 //! - `walking`, `whole`: all queries of a repository, and its reports and certificates. `recalled`: the same by records alone.
 //! - `reporting`: the report of a query. `nonexistent`, `unstated`, `plainly`: the reports that need no query.
 //! - `finding`, `one`, `known`: one query by its name, answered or looked up.
+//! - `touched`: what of each package rests on edited entries. `stale`, `afresh`, `due`: which
+//!   reports of before are stale, what is told anew without a query, and the queries that are answered anew. `renewing`: the
+//!   reports of a repository in which entries were edited, from those of before.
 //! - `laws`: what answers mean.
 #![tactic(auto)]
 
+mod afresh;
 mod alike;
 mod classes;
 mod context;
+mod due;
 mod fault;
 mod finding;
 mod judging;
@@ -31,8 +36,11 @@ mod nonexistent;
 mod one;
 mod plainly;
 mod recalled;
+mod renewing;
 mod reporting;
 mod shared;
+mod stale;
+mod touched;
 mod unstated;
 mod used;
 mod views;
@@ -46,5 +54,6 @@ pub use names::{QueryName, QueryNames};
 pub use one::{Found1, ask_among, ask_one};
 pub use plainly::plain;
 pub use recalled::{RecallFault, Recalled, recall};
+pub use renewing::renew;
 pub use walking::queries;
 pub use whole::{Judged, judge};

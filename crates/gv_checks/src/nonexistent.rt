@@ -157,8 +157,8 @@ fn add_dep(
     }
 }
 
-// Adds those of a class. REQUIRED_USE has no atoms.
-fn add_class(
+/// Adds those of a class. REQUIRED_USE has no atoms.
+pub(crate) fn add_class(
     alloc: Global,
     index: &PkgIndex<'_>,
     pkg: &Pkg,

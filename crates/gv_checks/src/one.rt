@@ -163,8 +163,8 @@ fn answer_at<F: Fn(&Pkg) -> bool, L: Ledger>(
     }
 }
 
-// The answer to the query of a package in a context.
-fn answer_case<'a, L: Ledger>(
+/// The answer to the query of a package in a context.
+pub(crate) fn answer_case<'a, L: Ledger>(
     alloc: Global,
     index: &'a PkgIndex<'a>,
     judged: &JudgedPkg<'a>,

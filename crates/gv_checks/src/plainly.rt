@@ -3,6 +3,7 @@
 //! The views of the profiles are made once, or lent by `judge` and `recall`. For each package its classes are gone through
 //! once, and each profile that judges it costs what `unstated` costs there.
 ghost use Rattle.std.specs.Prelude.{◌≡◌, ◌++◌, Some, map, filter, flat_map, slice_get, IfOk, OnOk};
+ghost use Rattle.gv_facts.specs.Visible.{judged};
 ghost use Rattle.gv_report.specs.Selecting.{selected};
 ghost use Rattle.gv_checks.specs.Cases.{case_in, cases_of, members_from};
 ghost use Rattle.gv_checks.specs.Context.{case_of};
@@ -18,7 +19,7 @@ use crate::unstated::{OtherFlags, add_unstated, other_flags};
 use crate::views::{ProfileView, all_views};
 use gv_base::NoMemory;
 use gv_entry::Body;
-use gv_facts::Pkg;
+use gv_facts::{Level, Pkg, Profile};
 use gv_load::Repo;
 use gv_report::{Keyword, Options, Report, Reports, selected};
 use gv_visible::PkgIndex;
@@ -128,31 +129,31 @@ fn add_case(
     add_live(alloc, options, judged, reports)
 }
 
-// Adds those of a package in a profile, if it judges the package.
-fn add_judged(
+/// Adds those of a package in a profile, at the level at which it judges the package, if it does.
+pub(crate) fn add_judged(
     alloc: Global,
     options: &Options,
     repo: &Repo,
-    view: &ProfileView<'_>,
+    profile: &Profile,
+    level: Option<Level>,
     number: u32,
     pkg: &Pkg,
     body: &Body,
     others: &[OtherFlags],
     reports: &mut Reports,
 ) -> Result<(), NoMemory>
-    requires pkgs { view.now.pkgs ≡ repo.now.pkgs }
-    requires numbered { slice_get repo.now.pkgs number ≡ Some pkg.now }
+    requires level { level ≡ judged pkg.now profile.now }
     requires others { others.now ≡ map (other_flags pkg.now body.now) (readable_classes pkg.now body.now) }
-    ensures { OnOk result (reports.new ≡ reports.old ++ told_in options.now (case_in repo.now.pkgs (record { number = number; pkg = pkg.now; body = body.now }) view.now.profile)) }
+    ensures { OnOk result (reports.new ≡ reports.old ++ told_in options.now (case_in repo.now.pkgs (record { number = number; pkg = pkg.now; body = body.now }) profile.now)) }
 {
-    match view.judged(number) {
+    match level {
         None => Ok(()),
         Some(level) => {
             let judged = JudgedPkg {
                 number,
                 pkg,
                 body,
-                profile: view.profile(),
+                profile,
                 level,
                 pkgs: &repo.pkgs,
             };
@@ -179,8 +180,18 @@ fn add_cases(
     ensures { OnOk result (reports.new ≡ reports.old ++ flat_map (told_case options.now) (cases_of repo.now (record { number = number; pkg = pkg.now; body = body.now }))) }
 {
     for view in views {
+        let level = view.judged(number);
         add_judged(
-            alloc, options, repo, view, number, pkg, body, others, reports,
+            alloc,
+            options,
+            repo,
+            view.profile(),
+            level,
+            number,
+            pkg,
+            body,
+            others,
+            reports,
         )?;
     }
     Ok(())

@@ -1,0 +1,179 @@
+//! Which reports of before are stale.
+//!
+//! A report costs a look-up of its package's path; one that rests on the atoms of a class also one of its package by hash.
+ghost use Rattle.std.specs.Prelude.{◌≡◌, filter, map, IfOk};
+ghost use Rattle.std.specs.List.{list_any};
+ghost use Rattle.std.specs.Ordering.{eq_by_cmp};
+ghost use Rattle.gv_report.specs.Order.{subject_cmp};
+ghost use Rattle.gv_report.specs.declared.report.Subject.TheVariants.{Package};
+ghost use Rattle.gv_load.specs.EntryEdits.{is_edited};
+ghost use Rattle.gv_checks.specs.Renewal.{rests_on_atoms};
+ghost use Rattle.gv_checks.specs.RepoReports.{subject_of};
+ghost use Rattle.gv_checks.specs.Touched.{is_lasting_by, is_stale_among, is_stale_at, is_stale_by, is_stale_in, is_stale_place, pkg_at};
+
+use crate::touched::Touched;
+use gv_base::{NoMemory, Text};
+use gv_facts::{Class, Pkg};
+use gv_load::EntryEdits;
+use gv_report::{Keyword, Report, Reports, Subject};
+use gv_version::{Version, compare};
+use gv_visible::PkgIndex;
+use std::alloc::Global;
+use std::cmp::Ordering;
+
+/// The reports of before that aren't stale, in their order.
+pub(crate) fn lasting(
+    alloc: Global,
+    index: &PkgIndex<'_>,
+    edits: &EntryEdits,
+    touched: &[Touched<'_>],
+    before: Reports,
+) -> Result<Reports, NoMemory>
+    requires { index.now ≡ map pkg_at touched.now }
+    ensures { IfOk result (λ reports. reports ≡ filter (is_lasting_by edits.now touched.now) before) }
+{
+    let mut reports = Reports::new(alloc);
+    for report in before.into_items() {
+        if !is_stale(alloc, index, edits, touched, &report)? {
+            reports.add(report)?;
+        }
+    }
+    Ok(reports)
+}
+
+fn rests_on_atoms(keyword: Keyword) -> bool
+    ensures { result ≡ rests_on_atoms keyword }
+{
+    match keyword {
+        Keyword::NonexistentDeps
+        | Keyword::NonsolvableDepsInStable
+        | Keyword::NonsolvableDepsInDev
+        | Keyword::NonsolvableDepsInExp => true,
+        Keyword::ProfileError
+        | Keyword::ProfileNote
+        | Keyword::MetadataError
+        | Keyword::StaleCache
+        | Keyword::OrphanCache
+        | Keyword::MissingCache
+        | Keyword::UnsatisfiableRequiredUse
+        | Keyword::UnstatedIuse
+        | Keyword::VisibleVcsPkg => false,
+    }
+}
+
+fn is_edited(alloc: Global, edits: &EntryEdits, subject: &Subject) -> Result<bool, NoMemory>
+    ensures { IfOk result (λ is. is ≡ is_edited edits.now subject.now) }
+{
+    match subject {
+        Subject::Place { .. } => Ok(false),
+        Subject::Package { category, pf, .. } => edits.is_edited(alloc, category, pf),
+    }
+}
+
+// Whether the package is the one of these.
+fn is_of(pkg: &Pkg, category: &Text, name: &Text, version: &Version, pf: &Text) -> bool
+    ensures { result ≡ eq_by_cmp subject_cmp (subject_of pkg.now) (Package category.now name.now version.now pf.now) }
+{
+    let order = pkg.category.cmp(category).then_with(|| {
+        pkg.name.cmp(name).then_with(|| compare(&pkg.version, version).then_with(|| pkg.pf.cmp(pf)))
+    });
+    matches!(order, Ordering::Equal)
+}
+
+fn is_stale_at(
+    touched: &Touched<'_>,
+    category: &Text,
+    name: &Text,
+    version: &Version,
+    pf: &Text,
+    class: Class,
+) -> bool
+    ensures { result ≡ is_stale_at (Package category.now name.now version.now pf.now) class touched.now }
+{
+    is_of(touched.pkg, category, name, version, pf) && touched.mentions(class)
+}
+
+fn is_stale_place(
+    touched: &[Touched<'_>],
+    place: u32,
+    category: &Text,
+    name: &Text,
+    version: &Version,
+    pf: &Text,
+    class: Class,
+) -> bool
+    ensures { result ≡ is_stale_place (Package category.now name.now version.now pf.now) class touched.now place }
+{
+    match touched.get(place as usize) {
+        Some(touched) => is_stale_at(touched, category, name, version, pf, class),
+        None => false,
+    }
+}
+
+fn some_stale(
+    touched: &[Touched<'_>],
+    places: &[u32],
+    category: &Text,
+    name: &Text,
+    version: &Version,
+    pf: &Text,
+    class: Class,
+) -> bool
+    ensures { result ≡ list_any (is_stale_place (Package category.now name.now version.now pf.now) class touched.now) places.now }
+{
+    for place in places {
+        if is_stale_place(touched, *place, category, name, version, pf, class) {
+            return true;
+        }
+    }
+    false
+}
+
+// Whether the package of this subject has such an atom in the class. Only packages of its name are looked at.
+#[tactic(auto, using(crate::proofs::StaleLemmas::place_stale, crate::proofs::StaleLemmas::stale_among))]
+fn is_stale_among(
+    index: &PkgIndex<'_>,
+    touched: &[Touched<'_>],
+    subject: &Subject,
+    class: Class,
+) -> bool
+    requires { index.now ≡ map pkg_at touched.now }
+    ensures { result ≡ is_stale_among touched.now subject.now class }
+{
+    match subject {
+        Subject::Place { .. } => false,
+        Subject::Package {
+            category,
+            name,
+            version,
+            pf,
+        } => {
+            let places = index.at(category.bytes(), name.bytes());
+            some_stale(touched, places, category, name, version, pf, class)
+        }
+    }
+}
+
+fn is_stale_in(index: &PkgIndex<'_>, touched: &[Touched<'_>], report: &Report) -> bool
+    requires { index.now ≡ map pkg_at touched.now }
+    ensures { result ≡ is_stale_in touched.now report.now }
+{
+    match report.class {
+        None => false,
+        Some(class) => is_stale_among(index, touched, &report.subject, class),
+    }
+}
+
+fn is_stale(
+    alloc: Global,
+    index: &PkgIndex<'_>,
+    edits: &EntryEdits,
+    touched: &[Touched<'_>],
+    report: &Report,
+) -> Result<bool, NoMemory>
+    requires { index.now ≡ map pkg_at touched.now }
+    ensures { IfOk result (λ is. is ≡ is_stale_by edits.now touched.now report.now) }
+{
+    let is_edited = is_edited(alloc, edits, &report.subject)?;
+    Ok(is_edited || (rests_on_atoms(report.keyword) && is_stale_in(index, touched, report)))
+}
