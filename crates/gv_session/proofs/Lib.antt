@@ -1,1 +1,5 @@
+mod CauseLemmas
+mod EditLemmas
+mod JudgingLemmas
 mod SessionLemmas
+mod SmallLemmas

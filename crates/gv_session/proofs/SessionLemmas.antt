@@ -1,28 +1,24 @@
 -- From what judging answers to the text of a scan.
-use Rattle.std.proofs.Common.{◌≡◌, ℕ, ◌+◌, ◌≤◌, Bool, true, false, if◌then◌else◌, List, [], ◌∷◌, filter, refl, sym, ap, subst, ◌∙◌, arith}
-use Rattle.std.specs.Prelude.{Option}
+use Rattle.std.proofs.Common.{◌≡◌, ℕ, ◌+◌, ◌≤◌, Bool, true, false, if◌then◌else◌, List, [], ◌∷◌, ◌++◌, filter, length, length-append, refl, sym, ap, subst, ◌∙◌, arith}
+use Rattle.std.specs.Prelude.{Option, None, Some, IfSome, take}
+use Rattle.std.proofs.lemmas.List.{take-append-le}
 use Rattle.gv_base.specs.Counts.{Counts}
 use Rattle.gv_base.specs.FileMap.{FileMap}
-use Rattle.gv_edits.specs.Edits.{edited_told}
-use Rattle.gv_checks.specs.Answered.{IsJudged}
-use Rattle.gv_checks.specs.Limits.{Refuses}
-use Rattle.gv_checks.specs.Queries.{queries}
-use Rattle.gv_checks.specs.RepoReports.{reports}
-use Rattle.gv_checks.specs.declared.fault.JudgeFault.{JudgeFault}
-use Rattle.gv_checks.specs.declared.fault.JudgeFault.TheVariants as judges
-use Rattle.gv_checks.specs.declared.whole.Judged.{Judged}
-use Rattle.gv_load.specs.Loading.{LoadCause}
-use Rattle.gv_load.specs.declared.faults.LoadFault.{LoadFault}
-use Rattle.gv_load.specs.declared.faults.LoadFault.TheVariants as loads
+use Rattle.gv_edits.specs.declared.edit.Edit.{Edit}
+use Rattle.gv_checks.specs.RepoReports.{reports as all_reports, scan_reports, scan_text}
+use Rattle.gv_load.specs.EntryEdits.{IsAllBut}
+use Rattle.gv_load.specs.Repository.{AreInPackageOrder}
 use Rattle.gv_load.specs.declared.loading.Repo.{Repo}
 use Rattle.gv_report.specs.Emitted.{emitted, reports_text}
 use Rattle.gv_report.specs.Distinct.{ordered}
 use Rattle.gv_report.specs.Selecting.{selected}
 use Rattle.gv_report.specs.declared.options.Options.{Options}
 use Rattle.gv_report.specs.declared.report.Report.{Report}
-use Rattle.gv_session.specs.Handing.{HandsJudge, HandsLoad}
-use Rattle.gv_session.specs.Session.{IsJudgedText, JudgeCause, ReportCause, State}
+use Rattle.gv_session.specs.Judging.{IsJudgedFor, IsRefusedFor, Outset, outset, seen_by}
+use Rattle.gv_session.specs.Session.{Agrees, IsFound, IsLast, IsLoaded, IsReport, ReportCause, State, seen_in, with_edit}
 use Rattle.gv_session.specs.declared.fault.SessionFault.{SessionFault}
+use Rattle.gv_session.specs.declared.last.Last.{Last}
+use Rattle.gv_session.proofs.EditLemmas.{take_all}
 
 abbrev pub PickedLaw : Type 0
 PickedLaw = (p : Report → Bool) (rs : List Report) → filter p (ordered rs) ≡ ordered (filter p rs)
@@ -36,30 +32,83 @@ twice p (x ∷ xs) = by (p x) refl (twice p xs)
     by true e rest = rw e (ap (λ ys. x ∷ ys) rest)
     by false e rest = rest
 
-few : (before now lowered count : ℕ) → now ≡ before + lowered → lowered ≤ count → now ≤ before + count
-few before now lowered count at most = omega (arith, at, most)
+-- the text of reports that are judged is that of the scan
+text_is : PickedLaw → (options : Options) (repo : Repo) (reports : List Report) (text : List ℕ) → reports ≡ scan_reports options repo → text ≡ emitted options reports → text ≡ scan_text options repo
+text_is law options repo reports text is made =
+    made ∙ (ap (emitted options) is ∙ ap (reports_text options.json) (law (selected options) (filter (selected options) (all_reports repo)) ∙ ap ordered (twice (selected options) (all_reports repo))))
 
-pub is_text : PickedLaw → (options : Options) (repo : Repo) (before now : Counts) (j : Judged) (text : List ℕ) → IsJudged options [] repo before now j → text ≡ emitted options j.reports
-    → IsJudgedText options repo before now text
-is_text law options repo before now j text is made = record {
-  within = is.within;
-  text_is =
-      made ∙ (ap (emitted options) is.reports_are
-      ∙ ap (reports_text options.json) (law (selected options) (filter (selected options) (reports repo)) ∙ ap ordered (twice (selected options) (reports repo))));
-  lowered = few _ _ _ _ (ap (λ (c : Counts). c.lower) is.counts_are) is.few;
+from_part : (whole repo : Repo) → IsAllBut repo whole → length repo.bodies ≡ length repo.pkgs → length whole.bodies ≡ length whole.pkgs
+from_part whole repo but is = ap length but.bodies ∙ is ∙ sym (ap length but.pkgs)
+
+pub is_report : PickedLaw → (s : State) (told : Option FileMap) (before now : Counts) (l : Last) (text : List ℕ) → IsJudgedFor (outset s.options s.edits told (seen_in s) before) now l
+    → text ≡ emitted s.options l.reports → IsReport s told before now text
+is_report law s told before now l text j made = record {
+  repo = j.repo;
+  loaded = j.loaded;
+  bodies = from_part j.repo l.repo j.but j.bodies;
+  order = subst AreInPackageOrder (sym j.but.pkgs) j.order;
+  judged = record { within = j.within; text_is = text_is law s.options j.repo l.reports text j.reports made; lowered = j.lowered };
+  few = j.few;
 }
 
--- ---- faults that are handed on
+pub agrees_after : (options : Options) (edits : List Edit) (told : Option FileMap) (seen : Option ℕ) (before now : Counts) (l : Last) → IsJudgedFor (outset options edits told seen before) now l
+    → IsLast options edits told l
+agrees_after options edits told seen before now l j = record {
+  repo = j.repo;
+  but = j.but;
+  bodies = j.bodies;
+  order = j.order;
+  classless = j.classless;
+  few = subst (λ n. n ≤ length edits) (sym j.seen) (omega (arith));
+  loaded = subst (λ es. IsLoaded es told j.repo) (sym (ap (λ n. take n edits) j.seen ∙ take_all edits)) j.loaded;
+  found = subst (λ es. IsFound es told l.found) (sym (ap (λ n. take n edits) j.seen ∙ take_all edits)) j.found;
+  within = j.within;
+  reports = j.reports;
+}
 
-pub judge_cause : (options : Options) (repo : Repo) (fault : JudgeFault) (out : SessionFault) → Refuses options.budget [] (queries options repo) fault → HandsJudge repo fault out
-    → JudgeCause options repo out
-judge_cause options repo (judges.Spent name sets) out refuses is = subst (JudgeCause options repo) (sym is) (refl, refuses)
-judge_cause options repo (judges.Limit place number) out refuses is = subst (JudgeCause options repo) (sym is) (refl, refuses)
-judge_cause options repo judges.NoMemory out refuses is = subst (JudgeCause options repo) (sym is) tt
+-- ---- one more edit: what was kept is of the edits before it
+pub agrees_with : (s : State) (edit : Edit) (told : Option FileMap) → Agrees told s → Agrees told (with_edit s edit)
+agrees_with s edit told agrees = by s.last agrees
+  where
+    by : (last : Option Last) → IfSome last (IsLast s.options s.edits told) → IfSome last (IsLast s.options (s.edits ++ edit ∷ []) told)
+    by None kept = tt
+    by (Some l) kept = record {
+      repo = kept.repo;
+      but = kept.but;
+      bodies = kept.bodies;
+      order = kept.order;
+      classless = kept.classless;
+      few = at_most (length s.edits) (length (s.edits ++ edit ∷ [])) l.seen kept.few (length-append s.edits (edit ∷ []));
+      loaded = subst (λ es. IsLoaded es told kept.repo) (sym (take-append-le l.seen s.edits (edit ∷ []) kept.few)) kept.loaded;
+      found = subst (λ es. IsFound es told l.found) (sym (take-append-le l.seen s.edits (edit ∷ []) kept.few)) kept.found;
+      within = kept.within;
+      reports = kept.reports;
+    }
+      where
+        at_most : (n m seen : ℕ) → seen ≤ n → m ≡ n + 1 → seen ≤ m
+        at_most n m seen few more = omega (arith, few, more)
 
-pub load_cause : (s : State) (told : Option FileMap) (before now : ℕ) (counts : Counts) (fault : LoadFault) (out : SessionFault) → LoadCause (edited_told told s.edits) before now fault → HandsLoad fault out
-    → ReportCause s told before now counts counts out
-load_cause s told before now counts (loads.Tree path) out cause is = subst (ReportCause s told before now counts counts) (sym is) (cause, refl)
-load_cause s told before now counts (loads.NotARepository path) out cause is = subst (ReportCause s told before now counts counts) (sym is) (cause.0, (refl, cause.1))
-load_cause s told before now counts (loads.Limit place number) out cause is = subst (ReportCause s told before now counts counts) (sym is) (cause.0, (refl, cause.1))
-load_cause s told before now counts loads.NoMemory out cause is = subst (ReportCause s told before now counts counts) (sym is) tt
+-- ---- a session as it is seen, from which what the last report left was taken
+
+module _ (s seen_as : State) (is : seen_as ≡ s) (told : Option FileMap) (last : Option Last) (taken : last ≡ seen_as.last) (before : Counts) where
+  abbrev o : Outset
+  o = outset seen_as.options seen_as.edits told (seen_by last) before
+
+  -- what was taken is so of these files
+  pub kept : Agrees told s → IfSome last (IsLast seen_as.options seen_as.edits told)
+  kept agrees = subst (λ (l : Option Last). IfSome l (IsLast seen_as.options seen_as.edits told)) (sym taken) (subst (Agrees told) (sym is) agrees)
+
+  module _ (now : Counts) (l : Last) (judged : IsJudgedFor o now l) where
+    pub reported : PickedLaw → (text : List ℕ) → text ≡ emitted seen_as.options l.reports → IsReport s told before now text
+    reported law text made =
+        subst (λ t. IsReport t told before now text) is
+        (is_report law seen_as told before now l text (subst (λ (k : Option Last). IsJudgedFor (outset seen_as.options seen_as.edits told (seen_by k) before) now l) taken judged) made)
+
+    pub left : IsLast seen_as.options seen_as.edits told l
+    left = agrees_after seen_as.options seen_as.edits told o.seen before now l judged
+
+    pub all_seen : l.seen ≡ length s.edits
+    all_seen = judged.seen ∙ ap (λ (t : State). length t.edits) is
+
+  pub unreported : (now : Counts) (fault : SessionFault) (tree_before tree_now : ℕ) → IsRefusedFor o tree_before tree_now now fault → ReportCause s told tree_before tree_now before now fault
+  unreported now fault tree_before tree_now refused = subst (λ t. ReportCause t told tree_before tree_now before now fault) is refused

@@ -1,2 +1,5 @@
+pub mod Due
 pub mod Handing
+pub mod Judging
 pub mod Session
+pub mod Small

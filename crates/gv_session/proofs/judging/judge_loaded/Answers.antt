@@ -1,0 +1,32 @@
+use Rattle.std.proofs.Common.{refl, subst}
+use Rattle.std.specs.Prelude.{Some}
+use Rattle.std.proofs.lemmas.Result.{IfOk-weaker}
+use Rattle.gv_load.specs.Replacing.{IsChange}
+use Rattle.gv_load.specs.declared.replacing.Changed.TheVariants.{Part}
+use Rattle.gv_session.specs.Judging.{IsJudgedFor, Outset, outset}
+use Rattle.gv_session.proofs.JudgingLemmas.{IsWhole, all_other, refused_again, renewed, whole_loaded}
+use Rattle.gv_session.proofs.judging.judge_loaded.Goals as goal
+
+pub returns-in-Part-clause-judged : goal.returns-in-Part-clause-judged
+returns-in-Part-clause-judged g c =
+    let o : Outset = outset c.args.options.now c.args.edits.now (g.T.Tree.files c.args.tree.now) (Some c.args.last.seen) c.args.steps.now in
+    let change : IsChange c.args.entries.now c.args.last.repo c.in-Ok.loaded.repo (Part c.in-Part.repo) = subst (IsChange c.args.entries.now c.args.last.repo c.in-Ok.loaded.repo) c.in-Part.is c.in_ok-repo.ensures in
+    let w : IsWhole o c.args.entries.now c.requires.last.repo c.in-Part.repo c.in-Ok.loaded.found =
+    whole_loaded o c.args.last c.args.entries.now c.requires.last c.requires.small c.requires.some c.entries_law.ensures c.in-Ok.loaded.repo c.in-Ok.loaded.found c.in-Ok.ensures.repo c.in-Ok.ensures.found c.in-Part.repo change in
+    renewed o c.args.last c.args.entries.now c.requires.last c.requires.small c.requires.some c.in-Part.repo c.in-Ok.loaded.found w refl c.judge_again.new.steps c.judge_again.result change.bodies change.order c.judge_again.ensures.judged
+
+pub returns-in-Part-clause-cause : goal.returns-in-Part-clause-cause
+returns-in-Part-clause-cause g c =
+    let o : Outset = outset c.args.options.now c.args.edits.now (g.T.Tree.files c.args.tree.now) (Some c.args.last.seen) c.args.steps.now in
+    let change : IsChange c.args.entries.now c.args.last.repo c.in-Ok.loaded.repo (Part c.in-Part.repo) = subst (IsChange c.args.entries.now c.args.last.repo c.in-Ok.loaded.repo) c.in-Part.is c.in_ok-repo.ensures in
+    let w : IsWhole o c.args.entries.now c.requires.last.repo c.in-Part.repo c.in-Ok.loaded.found =
+    whole_loaded o c.args.last c.args.entries.now c.requires.last c.requires.small c.requires.some c.entries_law.ensures c.in-Ok.loaded.repo c.in-Ok.loaded.found c.in-Ok.ensures.repo c.in-Ok.ensures.found c.in-Part.repo change in
+    refused_again o c.args.last c.args.entries.now c.requires.last c.requires.small c.requires.some c.in-Part.repo c.in-Ok.loaded.found w refl c.judge_again.new.steps c.judge_again.result _ _ c.judge_again.ensures.cause c.in-Ok.ensures.calm
+
+pub returns-in-Other-clause-judged : goal.returns-in-Other-clause-judged
+returns-in-Other-clause-judged g c =
+    let o : Outset = outset c.args.options.now c.args.edits.now (g.T.Tree.files c.args.tree.now) (Some c.args.last.seen) c.args.steps.now in
+    IfOk-weaker c.judge_anew.result _ (IsJudgedFor o c.judge_anew.new.steps)
+    (λ new is. all_other o c.args.last c.args.entries.now c.requires.last c.requires.small c.requires.some c.entries_law.ensures c.in-Ok.loaded.repo c.in-Ok.loaded.found c.in-Ok.ensures.repo c.in-Ok.ensures.found
+    c.in-Other.repo c.judge_anew.new.steps new refl c.in-Ok.ensures.bodies c.in-Ok.ensures.order c.in-Ok.ensures.classless
+    (subst (IsChange c.args.entries.now c.args.last.repo c.in-Ok.loaded.repo) c.in-Other.is c.in_ok-repo.ensures) is) c.judge_anew.ensures.judged

@@ -1,0 +1,28 @@
+use Rattle.std.proofs.Common.{refl, subst}
+use Rattle.std.specs.Prelude.{Some}
+use Rattle.gv_load.specs.Rereading.{IsReread, IsRereadOf}
+use Rattle.gv_edits.specs.Edits.{edited_told}
+use Rattle.gv_session.specs.Judging.{Outset, outset}
+use Rattle.gv_session.proofs.JudgingLemmas.{IsWhole, entries_are, refused_again, renewed, whole_reread}
+use Rattle.gv_session.proofs.judging.judge_small.Goals as goal
+
+pub reread_edited-requires-clause-entries : goal.reread_edited-requires-clause-entries
+reread_edited-requires-clause-entries g c = entries_are c.args.last.repo _ c.args.entries.now c.requires.small
+
+pub returns-in-Ok-Done-clause-judged : goal.returns-in-Ok-Done-clause-judged
+returns-in-Ok-Done-clause-judged g c =
+    let o : Outset = outset c.args.options.now c.args.edits.now (g.T.Tree.files c.args.tree.now) (Some c.args.last.seen) c.args.steps.now in
+    let is : IsRereadOf c.args.entries.now c.args.last.repo c.args.last.found (edited_told (g.T.Tree.files c.args.tree.now) c.args.edits.now) c.in-Ok-Done.repo c.in-Ok-Done.found =
+    subst (IsReread c.args.entries.now c.args.last.repo c.args.last.found (edited_told (g.T.Tree.files c.args.tree.now) c.args.edits.now)) c.in-Ok-Done.field-0-is c.in-Ok-Done.ensures.reread in
+    let w : IsWhole o c.args.entries.now c.requires.last.repo c.in-Ok-Done.repo c.in-Ok-Done.found =
+    whole_reread o c.args.last c.args.entries.now c.requires.last c.requires.small c.requires.some c.in-Ok-Done.repo c.in-Ok-Done.found is in
+    renewed o c.args.last c.args.entries.now c.requires.last c.requires.small c.requires.some c.in-Ok-Done.repo c.in-Ok-Done.found w refl c.judge_again.new.steps c.judge_again.result is.bodies is.order c.judge_again.ensures.judged
+
+pub returns-in-Ok-Done-clause-cause : goal.returns-in-Ok-Done-clause-cause
+returns-in-Ok-Done-clause-cause g c =
+    let o : Outset = outset c.args.options.now c.args.edits.now (g.T.Tree.files c.args.tree.now) (Some c.args.last.seen) c.args.steps.now in
+    let is : IsRereadOf c.args.entries.now c.args.last.repo c.args.last.found (edited_told (g.T.Tree.files c.args.tree.now) c.args.edits.now) c.in-Ok-Done.repo c.in-Ok-Done.found =
+    subst (IsReread c.args.entries.now c.args.last.repo c.args.last.found (edited_told (g.T.Tree.files c.args.tree.now) c.args.edits.now)) c.in-Ok-Done.field-0-is c.in-Ok-Done.ensures.reread in
+    let w : IsWhole o c.args.entries.now c.requires.last.repo c.in-Ok-Done.repo c.in-Ok-Done.found =
+    whole_reread o c.args.last c.args.entries.now c.requires.last c.requires.small c.requires.some c.in-Ok-Done.repo c.in-Ok-Done.found is in
+    refused_again o c.args.last c.args.entries.now c.requires.last c.requires.small c.requires.some c.in-Ok-Done.repo c.in-Ok-Done.found w refl c.judge_again.new.steps c.judge_again.result _ _ c.judge_again.ensures.cause c.in-Ok-Done.ensures.calm

@@ -1,0 +1,17 @@
+//! What a report leaves for the next one.
+
+use gv_load::Repo;
+use gv_report::Reports;
+
+/// What a report leaves for the next one.
+#[derive(Drop)]
+pub struct Last {
+    /// How many edits it saw.
+    pub seen: usize,
+    /// The repository of the files with these edits. Of its notes some may be missing.
+    pub repo: Repo,
+    /// How many files a load of them finds at most.
+    pub found: u64,
+    /// The reports of its scan, in order.
+    pub reports: Reports,
+}
