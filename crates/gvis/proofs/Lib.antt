@@ -12,3 +12,4 @@ pub mod Sessions
 pub mod Summed
 pub mod Verified
 pub mod VerifyEndings
+pub mod Works

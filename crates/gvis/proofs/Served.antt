@@ -1,5 +1,5 @@
 -- From reading and performing one command to a whole script.
-use Rattle.std.proofs.Common.{◌≡◌, ℕ, ◌+◌, ◌-◌, ◌≤◌, Bool, true, false, List, [], ◌∷◌, ◌++◌, length, Some, None, refl, sym, ap, subst, ◌∙◌, inl, inr, append_assoc, append-nil, length-append, arith}
+use Rattle.std.proofs.Common.{◌≡◌, ℕ, ◌+◌, ◌-◌, Bool, true, false, List, [], ◌∷◌, ◌++◌, length, Some, None, refl, sym, ap, subst, ◌∙◌, inl, inr, append_assoc, append-nil, length-append, arith}
 use Rattle.std.specs.Prelude.{Option, IfSome, IfErr, Result, Ok, Err, ◌⊎◌, codes}
 use Rattle.std.specs.Option.{option_map}
 use Rattle.gv_base.specs.FileMap.{FileMap}
@@ -13,15 +13,16 @@ use Rattle.gv_edits.specs.declared.edit.Edit.{Edit}
 use Rattle.gv_edits.specs.declared.edit.Edit.TheVariants as edits
 use Rattle.gv_load.specs.declared.faults.LoadFault.TheVariants as loads
 use Rattle.gv_report.specs.declared.options.Options.{Options}
-use Rattle.gv_session.specs.Session.{State}
+use Rattle.gv_session.specs.Session.{Agrees, State, seen_in, with_edit}
 use Rattle.gvis.specs.declared.refusal.Refusal.{Refusal}
 use Rattle.gvis.specs.declared.refusal.Refusal.TheVariants.{BadWords, TreeFailed, StoreFailed, OutputFailed, Spent, NoMemory, NotARepository, Limit, InputFailed, BadCommand}
 use Rattle.gvis.specs.Endings.{GainsFront}
 use Rattle.gvis.specs.Run.{IsPastLimit, IsSpentAt}
 use Rattle.gvis.specs.Scan.{IsUnloaded}
-use Rattle.gvis.specs.Session.{IsReport, Writes, edits_of, report_text}
-use Rattle.gvis.specs.SessionSteps.{AnswerCause, At, Begins, Cuts, DoCause, Does, Ends, Goes, Is, IsCut, IsTooMany, Left, NextCause, StepIs, StopCause, Stops, at, behind, leaving, writing}
+use Rattle.gvis.specs.Session.{IsReport, Writes, edits_of, report_text, work}
+use Rattle.gvis.specs.SessionSteps.{AnswerCause, At, Begins, Cuts, DoCause, Does, Ends, Goes, Is, IsCut, IsTooMany, Left, NextCause, StepIs, StopCause, Stops, at, behind, leaving, work_from, writing}
 use Rattle.gvis.proofs.Gains.{gains-gains}
+use Rattle.gvis.proofs.Works.{agrees_on, lowers_edit, lowers_none, lowers_nothing, lowers_on, lowers_report, lowers_to_end}
 
 pub gains_nothing : (held : Option (List ℕ)) → held ≡ gains held []
 gains_nothing None = refl
@@ -89,15 +90,15 @@ is_of : (script : Option Script) (ending : Ending) → IfSome script (λ s. s �
 is_of None ending is = tt
 is_of (Some s) ending is = is
 
-module _ (told : Option FileMap) (s : State) (script : Option Script) (read : ℕ) (tb ib im : ℕ) (o : Option (List ℕ)) (ob : ℕ) where
-  stops_here : (Why : List Command → Type 0) (tn n : ℕ) → Why [] → Stops told (at s script read o) (leaving tb tn ib n o ob ob) Why
+module _ (told : Option FileMap) (s : State) (script : Option Script) (read : ℕ) (tb ib im : ℕ) (o : Option (List ℕ)) (ob lower : ℕ) where
+  stops_here : (Why : List Command → Type 0) (tn n : ℕ) → Why [] → Stops told (at s script read o lower) (leaving tb tn ib n o ob ob) Why
   stops_here Why tn n why = record { done = []; text = []; writes = refl; out = gains_nothing o; out_calm = refl; why = why }
 
   none : read + 0 ≡ read
   none = omega arith
 
   -- no command was read
-  pub untaken : (refusal : Refusal) → NextCause script read ib im refusal → StopCause told (at s script read o) (leaving tb tb ib im o ob ob) refusal
+  pub untaken : (refusal : Refusal) → NextCause script read ib im refusal → StopCause told (at s script read o lower) (leaving tb tb ib im o ob ob) refusal
   untaken InputFailed cause = stops_here _ tb im (begins_nothing script, (refl, cause))
   untaken (BadCommand number) cause = stops_here _ tb im (is_of script Broken cause.1.1, ((refl, cause.0), cause.1.0 ∙ ap (λ (n : ℕ). n + 1) (sym none)))
   untaken (Limit place number) cause = stops_here _ tb im ((refl, cause.0), inr (is_of script Passed cause.1.1.1.1, (none ∙ cause.1.0, (cause.1.1.0, cause.1.1.1.0))))
@@ -111,7 +112,7 @@ module _ (told : Option FileMap) (s : State) (script : Option Script) (read : �
 
   module _ (rest : Option Script) (calm : im ≡ ib) (tn : ℕ) (o' : Option (List ℕ)) (on : ℕ) where
     abbrev start : At
-    start = at s script read o
+    start = at s script read o lower
 
     abbrev left : Left
     left = leaving tb tn ib im o' ob on
@@ -164,16 +165,17 @@ module _ (told : Option FileMap) (s : State) (script : Option Script) (read : �
     undone_if command led (Err refusal) cause = undone command led refusal cause
 
     -- it was
-    module _ (s' : State) (read' : ℕ) (counted : read' ≡ read + 1) where
+    module _ (s' : State) (read' : ℕ) (counted : read' ≡ read + 1) (lower' : ℕ) where
       abbrev end : At
-      end = at s' rest read' o'
+      end = at s' rest read' o' lower'
 
       one_read : (command : Command) → read' ≡ read + length (command ∷ [])
       one_read command = omega (arith, counted)
 
       edited_once : (command : Command) (edit : Edit) → ((x : Script) → led_script command x ≡ one_more command x) → edits_of (command ∷ []) ≡ edit ∷ [] → Writes s.options told s.edits (command ∷ []) []
-          → script ≡ option_map (led_script command) rest → s' ≡ record { options = s.options; edits = s.edits ++ edit ∷ [] } → o' ≡ o → Goes told start end
-      edited_once command edit one is writes led state out = record {
+          → ((files : FileMap) (more : List Command) → work_from start files (command ∷ more) ≡ work s.options files (s.edits ++ edit ∷ []) (seen_in s) more)
+          → script ≡ option_map (led_script command) rest → s' ≡ with_edit s edit → lower' ≡ lower → o' ≡ o → Goes told start end
+      edited_once command edit one is writes works led state same out = record {
         done = command ∷ [];
         text = [];
         options = ap (λ (x : State). x.options) state;
@@ -182,42 +184,52 @@ module _ (told : Option FileMap) (s : State) (script : Option Script) (read : �
         read = one_read command;
         writes = writes;
         out = out ∙ gains_nothing o;
+        lowered = lowers_edit told start end command edit works state same;
       }
 
-      pub stepped : (command : Command) → script ≡ option_map (led_script command) rest → (over : Bool) → Does told s command s' (writing tb tn o o' ob on) over → StepIs told start end left over
-      stepped (Put path bytes) led over does =
-          subst (StepIs told start end left) (sym does.0)
-          (edited_once (Put path bytes) (edits.Put path bytes) (λ x. refl) refl refl led does.1.0 does.1.1.1.0, (does.1.1.0, (calm, does.1.1.1.1)))
-      stepped (Cut path) led over does =
-          subst (StepIs told start end left) (sym does.0)
-          (edited_once (Cut path) (edits.Cut path) (λ x. refl) refl refl led does.1.0 does.1.1.1.0, (does.1.1.0, (calm, does.1.1.1.1)))
-      stepped Report led over does =
-          let a = does.1.1 in
-          subst (StepIs told start end left) (sym does.0) (
-            record {
-              done = Report ∷ [];
-              text = report_text a.report;
-              options = ap (λ (x : State). x.options) does.1.0;
-              edits = ap (λ (x : State). x.edits) does.1.0 ∙ sym (append-nil s.edits);
-              script = led_behind script rest Report (λ x. refl) led;
-              read = one_read Report;
-              writes = (a.report, a.is, [], sym (append-nil (report_text a.report)), refl);
-              out = a.out;
-            },
-            (a.tree, (calm, a.calm)),
-          )
-      stepped End led over does =
-          subst (StepIs told start end left) (sym does.0)
-          (record {
-            tree = does.1.1.0;
-            input = calm;
-            done = [];
-            script = led_end script rest led;
-            text = [];
-            writes = refl;
-            out = does.1.1.1.0 ∙ gains_nothing o;
-            out_calm = does.1.1.1.1;
-          })
+      module _ (agrees : Agrees told s) where
+        edit_steps : (command : Command) (edit : Edit) → ((x : Script) → led_script command x ≡ one_more command x) → edits_of (command ∷ []) ≡ edit ∷ [] → Writes s.options told s.edits (command ∷ []) []
+            → ((files : FileMap) (more : List Command) → work_from start files (command ∷ more) ≡ work s.options files (s.edits ++ edit ∷ []) (seen_in s) more)
+            → script ≡ option_map (led_script command) rest → (over : Bool) → (over ≡ false) × ((s' ≡ with_edit s edit) × ((lower' ≡ lower) × ((tn ≡ tb) × ((o' ≡ o) × (on ≡ ob))))) → StepIs told start end left over
+        edit_steps command edit one is writes works led over does =
+            subst (StepIs told start end left) (sym does.0) (
+              edited_once command edit one is writes works led does.1.0 does.1.1.0 does.1.1.1.1.0,
+              (agrees_on told s s' edit does.1.0 agrees, (does.1.1.1.0, (calm, does.1.1.1.1.1))),
+            )
+
+        pub stepped : (command : Command) → script ≡ option_map (led_script command) rest → (over : Bool) → Does told s command s' (writing tb tn o o' ob on) lower lower' over → StepIs told start end left over
+        stepped (Put path bytes) led over does = edit_steps (Put path bytes) (edits.Put path bytes) (λ x. refl) refl refl (λ files more. refl) led over does
+        stepped (Cut path) led over does = edit_steps (Cut path) (edits.Cut path) (λ x. refl) refl refl (λ files more. refl) led over does
+        stepped Report led over does =
+            let sees = does.1.0 in
+            let a = does.1.1 in
+            subst (StepIs told start end left) (sym does.0) (
+              record {
+                done = Report ∷ [];
+                text = report_text a.report;
+                options = sees.options;
+                edits = sees.edits ∙ sym (append-nil s.edits);
+                script = led_behind script rest Report (λ x. refl) led;
+                read = one_read Report;
+                writes = (a.report, a.is, [], sym (append-nil (report_text a.report)), refl);
+                out = a.out;
+                lowered = lowers_report told start end sees;
+              },
+              (sees.agrees, (a.tree, (calm, a.calm))),
+            )
+        stepped End led over does =
+            subst (StepIs told start end left) (sym does.0)
+            (record {
+              tree = does.1.1.1.0;
+              input = calm;
+              done = [];
+              script = led_end script rest led;
+              text = [];
+              writes = refl;
+              out = does.1.1.1.1.0 ∙ gains_nothing o;
+              out_calm = does.1.1.1.1.1;
+              lowered = lowers_none told start lower' does.1.1.0;
+            })
 
 -- ---- from a point to a later one, and on
 
@@ -263,11 +275,12 @@ module _ (told : Option FileMap) (p q : At) (g : Goes told p q) where
     read = h.read ∙ read_on h.done;
     writes = writes_on h.done h.text h.writes;
     out = h.out ∙ out_on h.text;
+    lowered = lowers_on told p q g.done g.lowered h.done r h.lowered;
   }
 
   module _ (l : Left) where
-    pub goes_to_end : Ends told q l → Ends told p l
-    goes_to_end e = record {
+    pub goes_to_end : (lower : ℕ) → Ends told q l lower → Ends told p l lower
+    goes_to_end lower e = record {
       tree = e.tree;
       input = e.input;
       done = g.done ++ e.done;
@@ -276,6 +289,7 @@ module _ (told : Option FileMap) (p q : At) (g : Goes told p q) where
       writes = writes_on e.done e.text e.writes;
       out = e.out ∙ out_on e.text;
       out_calm = e.out_calm;
+      lowered = lowers_to_end told p q g.done g.lowered e.done lower e.lowered;
     }
 
     stops_on : (Why Why' : List Command → Type 0) → ((done : List Command) → Why done → Why' (g.done ++ done)) → Stops told q l Why → Stops told p l Why'
@@ -355,6 +369,7 @@ goes_nowhere told p = record {
   read = omega arith;
   writes = refl;
   out = gains_nothing p.out;
+  lowered = lowers_nothing told p;
 }
   where
     same : (script : Option Script) → script ≡ option_map (behind []) script
@@ -366,7 +381,7 @@ goes_nowhere told p = record {
 pub goes_further : (told : Option FileMap) (p q : At) (l : Left) (over : Bool) → over ≡ false → StepIs told p q l over → StepIs told p q l false
 goes_further told p q l over is step = subst (StepIs told p q l) is step
 
-pub ends_there : (told : Option FileMap) (p q : At) (l : Left) (over : Bool) → over ≡ true → StepIs told p q l over → Ends told p l
+pub ends_there : (told : Option FileMap) (p q : At) (l : Left) (over : Bool) → over ≡ true → StepIs told p q l over → Ends told p l q.lower
 ends_there told p q l over is step = subst (StepIs told p q l) is step
 
 pub goes_from : (told told' : Option FileMap) (p q r : At) → told' ≡ told → Goes told p q → Goes told' q r → Goes told p r
@@ -381,10 +396,10 @@ module _ (told told' : Option FileMap) (p q : At) (same : told' ≡ told) (g : G
       (subst (λ (n : ℕ). StopCause told' q (leaving tb' tn n im out ob on) refusal) input
       (subst (λ (n : ℕ). StopCause told' q (leaving tb' tn ib' im out n on) refusal) still st))))
 
-  pub ends_from : Ends told' q (leaving tb' tn ib' im out ob' on) → Ends told p (leaving tb tn ib im out ob on)
-  ends_from e =
-      goes_to_end told p q g (leaving tb tn ib im out ob on)
-      (subst (λ (x : Option FileMap). Ends x q (leaving tb tn ib im out ob on)) same
-      (subst (λ (n : ℕ). Ends told' q (leaving n tn ib im out ob on)) tree
-      (subst (λ (n : ℕ). Ends told' q (leaving tb' tn n im out ob on)) input
-      (subst (λ (n : ℕ). Ends told' q (leaving tb' tn ib' im out n on)) still e))))
+  pub ends_from : (lower : ℕ) → Ends told' q (leaving tb' tn ib' im out ob' on) lower → Ends told p (leaving tb tn ib im out ob on) lower
+  ends_from lower e =
+      goes_to_end told p q g (leaving tb tn ib im out ob on) lower
+      (subst (λ (x : Option FileMap). Ends x q (leaving tb tn ib im out ob on) lower) same
+      (subst (λ (n : ℕ). Ends told' q (leaving n tn ib im out ob on) lower) tree
+      (subst (λ (n : ℕ). Ends told' q (leaving tb' tn n im out ob on) lower) input
+      (subst (λ (n : ℕ). Ends told' q (leaving tb' tn ib' im out n on) lower) still e))))

@@ -1,10 +1,9 @@
 -- From a whole script to what a session leaves.
 use Rattle.std.proofs.Common.{◌≡◌, ℕ, ◌+◌, ◌≤◌, false, List, [], ◌∷◌, ◌++◌, length, Some, None, refl, sym, ap, subst, ◌∙◌, inl, inr, arith}
-use Rattle.std.specs.Prelude.{Option, Ok, Err, IfSome, ◌⊎◌}
+use Rattle.std.specs.Prelude.{Option, Ok, Err}
 use Rattle.std.specs.Option.{option_map}
 use Rattle.gv_base.specs.Counts.{Counts}
 use Rattle.gv_base.specs.FileMap.{FileMap}
-use Rattle.gv_base.specs.Outside.{gains}
 use Rattle.gv_edits.specs.Script.{Script, Ended, Broken, Passed, script_of}
 use Rattle.gv_edits.specs.Script as scripts
 use Rattle.gv_edits.specs.declared.command.Command.{Command}
@@ -14,6 +13,7 @@ use Rattle.gv_report.specs.declared.options.Options.{Options}
 use Rattle.gvis.specs.declared.asking.Sitting.{Sitting}
 use Rattle.gvis.specs.declared.refusal.Refusal.{Refusal}
 use Rattle.gvis.specs.declared.refusal.Refusal.TheVariants.{BadWords, TreeFailed, StoreFailed, OutputFailed, Spent, NoMemory, NotARepository, Limit, InputFailed, BadCommand}
+use Rattle.gv_session.specs.declared.last.Last.{Last}
 use Rattle.gvis.specs.Asking.{AsksForSession}
 use Rattle.gvis.specs.Performs.{Performs, Refuses}
 use Rattle.gvis.specs.Run.{World, world}
@@ -45,7 +45,7 @@ module _ (words : List (List ℕ)) (s : Sitting) (asks : AsksForSession words s)
   input = fed i i' ib im
 
   abbrev start : At
-  start = at (record { options = s.options; edits = [] }) (option_map script_of i) 0 o
+  start = at (record { options = s.options; edits = []; last = None }) (option_map script_of i) 0 o c.lower
 
   abbrev left : Left
   left = leaving tb tn ib im o' ob on
@@ -53,7 +53,7 @@ module _ (words : List (List ℕ)) (s : Sitting) (asks : AsksForSession words s)
   as_session : AsSession words s old new
   as_session = record { asked = asks; root = is; store = (refl, refl) }
 
-  pub served : Ends f start left → Performs words old new input (Ok false)
+  pub served : Ends f start left c'.lower → Performs words old new input (Ok false)
   served e = record {
     done = inr (inr (inr (record {
       sitting = s;
@@ -65,6 +65,7 @@ module _ (words : List (List ℕ)) (s : Sitting) (asks : AsksForSession words s)
       writes = e.writes;
       out = e.out;
       out_calm = e.out_calm;
+      lowered = e.lowered;
       status_is = refl;
     })));
     refusal = tt;
@@ -138,19 +139,22 @@ module _ (words : List (List ℕ)) (s : Sitting) (asks : AsksForSession words s)
   }
 
   -- from the point at which a new session stands
-  abbrev from : (options : Options) → List Edit → Option Script → ℕ → Option (List ℕ) → At
-  from options edits script read held = at (record { options = options; edits = edits }) script read held
+  abbrev from : (options : Options) → List Edit → Option Last → Option Script → ℕ → Option (List ℕ) → ℕ → At
+  from options edits last script read held lower = at (record { options = options; edits = edits; last = last }) script read held lower
 
-  module _ (p : At) (options : p.state.options ≡ s.options) (edits : p.state.edits ≡ []) (script : p.script ≡ option_map script_of i) (read : p.read ≡ 0) (held : p.out ≡ o) where
+  module _ (p : At) (options : p.state.options ≡ s.options) (edits : p.state.edits ≡ []) (last : p.state.last ≡ None) (script : p.script ≡ option_map script_of i) (read : p.read ≡ 0) (held : p.out ≡ o)
+      (lower : p.lower ≡ c.lower) where
     is_start : p ≡ start
     is_start =
-        ap (λ (x : Options). from x p.state.edits p.script p.read p.out) options
-        ∙ (ap (λ (x : List Edit). from s.options x p.script p.read p.out) edits
-        ∙ (ap (λ (x : Option Script). from s.options [] x p.read p.out) script
-        ∙ (ap (λ (x : ℕ). from s.options [] (option_map script_of i) x p.out) read ∙ ap (λ (x : Option (List ℕ)). from s.options [] (option_map script_of i) 0 x) held)))
+        ap (λ (x : Options). from x p.state.edits p.state.last p.script p.read p.out p.lower) options
+        ∙ (ap (λ (x : List Edit). from s.options x p.state.last p.script p.read p.out p.lower) edits
+        ∙ (ap (λ (x : Option Last). from s.options [] x p.script p.read p.out p.lower) last
+        ∙ (ap (λ (x : Option Script). from s.options [] None x p.read p.out p.lower) script
+        ∙ (ap (λ (x : ℕ). from s.options [] None (option_map script_of i) x p.out p.lower) read
+        ∙ (ap (λ (x : Option (List ℕ)). from s.options [] None (option_map script_of i) 0 x p.lower) held ∙ ap (λ (x : ℕ). from s.options [] None (option_map script_of i) 0 o x) lower)))))
 
-    pub served_from : Ends f p left → Performs words old new input (Ok false)
-    served_from e = served (subst (λ (x : At). Ends f x left) is_start e)
+    pub served_from : Ends f p left c'.lower → Performs words old new input (Ok false)
+    served_from e = served (subst (λ (x : At). Ends f x left c'.lower) is_start e)
 
     pub stopped_from : (refusal : Refusal) → StopCause f p left refusal → Performs words old new input (Err refusal)
     stopped_from refusal st = stopped refusal (subst (λ (x : At). StopCause f x left refusal) is_start st)

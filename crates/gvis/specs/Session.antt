@@ -1,5 +1,5 @@
 -- What a session writes, and what a run of `session` leaves.
-use Rattle.std.specs.Prelude.{◌≡◌, ◌⊎◌, ℕ, ◌+◌, List, [], ◌∷◌, ◌++◌, length, codes, decimal, Option, Some, IfSome, Result, Ok, Err}
+use Rattle.std.specs.Prelude.{◌≡◌, ◌⊎◌, ℕ, ◌+◌, ◌≤◌, List, [], ◌∷◌, ◌++◌, length, codes, decimal, Option, None, Some, IfSome, Result, Ok, Err}
 use Rattle.std.specs.List.{AllByRecursion}
 use Rattle.gv_base.specs.Causes.{Rose}
 use Rattle.gv_base.specs.FileMap.{FileMap}
@@ -19,6 +19,7 @@ use Rattle.gv_report.specs.declared.options.Options.{Options}
 use Rattle.gv_checks.specs.Limits.{IsWithin}
 use Rattle.gv_checks.specs.Queries.{queries}
 use Rattle.gv_checks.specs.RepoReports.{scan_text}
+use Rattle.gv_session.specs.Due.{due}
 use Rattle.gvis.specs.declared.asking.Sitting.{Sitting}
 use Rattle.gvis.specs.declared.refusal.Refusal.{Refusal}
 use Rattle.gvis.specs.declared.refusal.Refusal.TheVariants.{BadWords, TreeFailed, StoreFailed, OutputFailed, Spent, NoMemory, NotARepository, Limit, InputFailed, BadCommand}
@@ -72,6 +73,23 @@ Writes options told edits (commands.Report ∷ cs) text =
     (report : List ℕ) × IsReport options (edited_told told edits) report × (rest : List ℕ) × (text ≡ report_text report ++ rest) × Writes options told edits cs rest
 Writes options told edits (commands.End ∷ cs) text = ⊥
 
+-- ---- what reports lower
+
+-- what a report of these files may lower at most, where the report before saw so many of the edits: what is due in the repository that
+-- they load to, and nothing where loading is refused
+abbrev pub due_in : Options → Result Repo LoadFault → List Edit → (seen : Option ℕ) → ℕ
+due_in options (Ok repo) edits seen = due options repo edits seen
+due_in options (Err fault) edits seen = 0
+
+-- the work of commands behind these edits of the files, of which the last report saw so many: a report adds what is due, and sees all
+-- edits before it
+abbrev pub work : Options → FileMap → List Edit → (seen : Option ℕ) → List Command → ℕ
+work options files edits seen [] = 0
+work options files edits seen (commands.Put path bytes ∷ cs) = work options files (edits ++ Put path bytes ∷ []) seen cs
+work options files edits seen (commands.Cut path ∷ cs) = work options files (edits ++ Cut path ∷ []) seen cs
+work options files edits seen (commands.Report ∷ cs) = due_in options (loading (look_of (edited files edits))) edits seen + work options files edits (Some (length edits)) cs
+work options files edits seen (commands.End ∷ cs) = 0
+
 -- ---- which commands the input has, where it tells its bytes
 
 -- exactly these, and so the script ends
@@ -98,7 +116,8 @@ pub record AsSession (words : List (List ℕ)) (s : Sitting) (old new : World) :
 abbrev pub Calm : World → World → Fed → Type 0
 Calm old new input = SameTree old new × CalmInput input
 
--- `end` was read; the output gained exactly what the commands before it write
+-- `end` was read; the output gained exactly what the commands before it write, and where the files are told no more was lowered than
+-- is the work of these commands
 pub record Serves (words : List (List ℕ)) (old new : World) (input : Fed) (status : ℕ) : Type 0 where
   pub sitting : Sitting
   pub as_session : AsSession words sitting old new
@@ -109,6 +128,7 @@ pub record Serves (words : List (List ℕ)) (old new : World) (input : Fed) (sta
   pub writes : Writes sitting.options old.files [] done text
   pub out : new.out ≡ gains old.out text
   pub out_calm : new.out_faults ≡ old.out_faults
+  pub lowered : IfSome old.files (λ files. new.counts.lower ≤ old.counts.lower + work sitting.options files [] None done)
   pub status_is : status ≡ 0
 
 -- it ended behind these commands; the output gained exactly what they write

@@ -1,29 +1,24 @@
 -- How the steps of a session end: no public contract rests on these words.
-use Rattle.std.specs.Prelude.{◌≡◌, ◌⊎◌, ℕ, ◌+◌, List, [], ◌∷◌, ◌++◌, length, codes, Bool, true, false, Option, IfSome}
+use Rattle.std.specs.Prelude.{◌≡◌, ◌⊎◌, ℕ, ◌+◌, ◌≤◌, List, [], ◌∷◌, ◌++◌, length, codes, Bool, true, false, Option, Some, IfSome}
 use Rattle.std.specs.Option.{option_map}
 use Rattle.gv_base.specs.Causes.{Rose}
 use Rattle.gv_base.specs.FileMap.{FileMap}
 use Rattle.gv_base.specs.Outside.{gains}
-use Rattle.gv_edits.specs.Edits.{edited_told}
+use Rattle.gv_edits.specs.Edits.{edited, edited_told}
 use Rattle.gv_edits.specs.Script.{Ending, Script, without_commands, Ended, Broken, Passed}
 use Rattle.gv_edits.specs.declared.command.Command.{Command}
 use Rattle.gv_edits.specs.declared.command.Command.TheVariants.{Put, Cut, Report, End}
-use Rattle.gv_edits.specs.declared.edit.Edit.{Edit}
 use Rattle.gv_edits.specs.declared.edit.Edit.TheVariants as edits
-use Rattle.gv_checks.specs.declared.fault.JudgeFault.{JudgeFault}
-use Rattle.gv_checks.specs.declared.fault.JudgeFault.TheVariants as judges
-use Rattle.gv_load.specs.declared.faults.LoadFault.{LoadFault}
+use Rattle.gv_load.specs.Loading.{loading}
+use Rattle.gv_load.specs.Look.{look_of}
 use Rattle.gv_load.specs.declared.faults.LoadFault.TheVariants as loads
-use Rattle.gv_load.specs.declared.loading.Repo.{Repo}
-use Rattle.gv_report.specs.declared.options.Options.{Options}
-use Rattle.gv_session.specs.Session.{State, with_edit}
+use Rattle.gv_session.specs.Session.{Agrees, State, seen_in, with_edit}
 use Rattle.gvis.specs.declared.refusal.Refusal.{Refusal}
 use Rattle.gvis.specs.declared.refusal.Refusal.TheVariants.{BadWords, TreeFailed, StoreFailed, OutputFailed, Spent, NoMemory, NotARepository, Limit, InputFailed, BadCommand}
 use Rattle.gvis.specs.Endings.{GainsFront}
-use Rattle.gvis.specs.Naming.{name_text}
 use Rattle.gvis.specs.Run.{IsPastLimit, IsSpentAt}
 use Rattle.gvis.specs.Scan.{IsUnloaded}
-use Rattle.gvis.specs.Session.{IsReport, Writes, edits_of, report_text}
+use Rattle.gvis.specs.Session.{IsReport, Writes, due_in, edits_of, report_text, work}
 
 -- ---- reading a command
 
@@ -59,6 +54,14 @@ MakeCause s told before now (StoreFailed path) = ⊥
 MakeCause s told before now OutputFailed = ⊥
 MakeCause s told before now InputFailed = ⊥
 MakeCause s told before now (BadCommand number) = ⊥
+
+-- what a report does to the session: it sees all edits, what it leaves is so of the files, and no more was lowered than is due
+pub record Sees (told : Option FileMap) (s s' : State) (before now : ℕ) : Type 0 where
+  pub options : s'.options ≡ s.options
+  pub edits : s'.edits ≡ s.edits
+  pub seen : seen_in s' ≡ Some (length s.edits)
+  pub agrees : Agrees told s'
+  pub few : IfSome told (λ files. now ≤ before + due_in s.options (loading (look_of (edited files s.edits))) s.edits (seen_in s))
 
 -- how tree and output are left
 pub record Written : Type 0 where
@@ -113,12 +116,13 @@ AnswerCause s told w (BadCommand number) = ⊥
 
 -- ---- one command
 
--- what a command does, and whether it ends the session
-abbrev pub Does : (told : Option FileMap) → State → Command → State → Written → (over : Bool) → Type 0
-Does told s (Put path bytes) s' w over = (over ≡ false) × ((s' ≡ with_edit s (edits.Put path bytes)) × ((w.tree_now ≡ w.tree_before) × SameOutput w))
-Does told s (Cut path) s' w over = (over ≡ false) × ((s' ≡ with_edit s (edits.Cut path)) × ((w.tree_now ≡ w.tree_before) × SameOutput w))
-Does told s Report s' w over = (over ≡ false) × ((s' ≡ s) × IsAnswered s told w)
-Does told s End s' w over = (over ≡ true) × ((s' ≡ s) × ((w.tree_now ≡ w.tree_before) × SameOutput w))
+-- what a command does, and whether it ends the session, where so much was lowered before and now
+abbrev pub Does : (told : Option FileMap) → State → Command → State → Written → (before now : ℕ) → (over : Bool) → Type 0
+Does told s (Put path bytes) s' w before now over =
+    (over ≡ false) × ((s' ≡ with_edit s (edits.Put path bytes)) × ((now ≡ before) × ((w.tree_now ≡ w.tree_before) × SameOutput w)))
+Does told s (Cut path) s' w before now over = (over ≡ false) × ((s' ≡ with_edit s (edits.Cut path)) × ((now ≡ before) × ((w.tree_now ≡ w.tree_before) × SameOutput w)))
+Does told s Report s' w before now over = (over ≡ false) × (Sees told s s' before now × IsAnswered s told w)
+Does told s End s' w before now over = (over ≡ true) × ((s' ≡ s) × ((now ≡ before) × ((w.tree_now ≡ w.tree_before) × SameOutput w)))
 
 -- why it isn't done
 abbrev pub DoCause : (told : Option FileMap) → State → Command → Written → Refusal → Type 0
@@ -129,16 +133,29 @@ DoCause told s End w refusal = ⊥
 
 -- ---- from a point of the script on
 
--- where a session stands: its options and edits, what is left of the script, how many commands were read, and what the output
--- holds
+-- where a session stands: its options and edits and what the last report left, what is left of the script, how many commands were
+-- read, what the output holds, and how much was lowered
 pub record At : Type 0 where
   pub state : State
   pub script : Option Script
   pub read : ℕ
   pub out : Option (List ℕ)
+  pub lower : ℕ
 
-abbrev pub at : State → Option Script → ℕ → Option (List ℕ) → At
-at state script read out = record { state = state; script = script; read = read; out = out }
+abbrev pub at : State → Option Script → ℕ → Option (List ℕ) → ℕ → At
+at state script read out lower = record { state = state; script = script; read = read; out = out; lower = lower }
+
+-- the work of commands from here
+abbrev pub work_from : At → FileMap → List Command → ℕ
+work_from p files cs = work p.state.options files p.state.edits (seen_in p.state) cs
+
+-- no more was lowered from here than is the work of these commands
+abbrev pub LowersAll : (told : Option FileMap) → At → List Command → (lower : ℕ) → Type 0
+LowersAll told p done lower = IfSome told (λ files. lower ≤ p.lower + work_from p files done)
+
+-- from here to there neither, whatever comes behind them
+abbrev pub Lowers : (told : Option FileMap) → (p q : At) → List Command → Type 0
+Lowers told p q done = IfSome told (λ files. (more : List Command) → q.lower + work_from q files more ≤ p.lower + work_from p files (done ++ more))
 
 -- these commands and then that script
 abbrev pub behind : List Command → Script → Script
@@ -154,6 +171,7 @@ pub record Goes (told : Option FileMap) (p q : At) : Type 0 where
   pub read : q.read ≡ p.read + length done
   pub writes : Writes p.state.options told p.state.edits done text
   pub out : q.out ≡ gains p.out text
+  pub lowered : Lowers told p q done
 
 -- the script from here is these commands, and so it ends; or it begins with these
 abbrev pub Is : Option Script → List Command → Ending → Type 0
@@ -189,8 +207,8 @@ CalmTree l = l.tree_now ≡ l.tree_before
 abbrev pub CalmFed : Left → Type 0
 CalmFed l = l.input_now ≡ l.input_before
 
--- `end` was read
-pub record Ends (told : Option FileMap) (p : At) (l : Left) : Type 0 where
+-- `end` was read, when so much was lowered
+pub record Ends (told : Option FileMap) (p : At) (l : Left) (lower : ℕ) : Type 0 where
   pub tree : CalmTree l
   pub input : CalmFed l
   pub done : List Command
@@ -199,11 +217,12 @@ pub record Ends (told : Option FileMap) (p : At) (l : Left) : Type 0 where
   pub writes : Writes p.state.options told p.state.edits done text
   pub out : l.out ≡ gains p.out text
   pub out_calm : l.out_now ≡ l.out_before
+  pub lowered : LowersAll told p done lower
 
 -- a command was performed: the session goes on from there, or has ended
 abbrev pub StepIs : (told : Option FileMap) → (p q : At) → Left → (over : Bool) → Type 0
-StepIs told p q l false = Goes told p q × (CalmTree l × (CalmFed l × (l.out_now ≡ l.out_before)))
-StepIs told p q l true = Ends told p l
+StepIs told p q l false = Goes told p q × (Agrees told q.state × (CalmTree l × (CalmFed l × (l.out_now ≡ l.out_before))))
+StepIs told p q l true = Ends told p l q.lower
 
 -- it was ended behind these commands
 pub record Stops (told : Option FileMap) (p : At) (l : Left) (Why : List Command → Type 0) : Type 0 where

@@ -3,8 +3,9 @@
 //! Costs what `Session::report` costs, and O(the bytes of the report).
 ghost use Rattle.std.specs.Prelude.{◌≡◌, ◌≤◌, ◌++◌, IfOk, IfErr, OnOk};
 ghost use Rattle.gv_edits.specs.Edits.{edited_told};
+ghost use Rattle.gv_session.specs.Session.{Agrees};
 ghost use Rattle.gvis.specs.Session.{IsReport, report_text};
-ghost use Rattle.gvis.specs.SessionSteps.{AnswerCause, IsAnswered, MakeCause, writing};
+ghost use Rattle.gvis.specs.SessionSteps.{AnswerCause, IsAnswered, MakeCause, Sees, writing};
 
 use crate::Refusal;
 use crate::refusing::{judge_refusal, load_refusal};
@@ -22,9 +23,10 @@ pub(crate) fn answer_report<T: Tree, S: Sink, L: Ledger>(
     out: &mut S,
     steps: &mut Steps<L>,
 ) -> Result<(), Refusal>
+    requires { Agrees (T.files tree.old) session.old }
     ensures answered { OnOk result (IsAnswered session.old (T.files tree.old) (writing (T.faults tree.old) (T.faults tree.new) (S.held out.old) (S.held out.new) (S.faults out.old) (S.faults out.new))) }
     ensures cause { IfErr result (AnswerCause session.old (T.files tree.old) (writing (T.faults tree.old) (T.faults tree.new) (S.held out.old) (S.held out.new) (S.faults out.old) (S.faults out.new))) }
-    ensures same { session.new ≡ session.old }
+    ensures sees { OnOk result (Sees (T.files tree.old) session.old session.new steps.old.lower steps.new.lower) }
     ensures files { T.files tree.new ≡ T.files tree.old }
     ensures root { T.entered tree.new ≡ T.entered tree.old }
     ensures tree_later { T.faults tree.old ≤ T.faults tree.new }
@@ -43,9 +45,10 @@ fn make_report<T: Tree, L: Ledger>(
     tree: &mut T,
     steps: &mut Steps<L>,
 ) -> Result<Text, Refusal>
+    requires { Agrees (T.files tree.old) session.old }
     ensures report { IfOk result (IsReport session.old.options (edited_told (T.files tree.old) session.old.edits)) }
     ensures cause { IfErr result (MakeCause session.old (T.files tree.old) (T.faults tree.old) (T.faults tree.new)) }
-    ensures same { session.new ≡ session.old }
+    ensures sees { OnOk result (Sees (T.files tree.old) session.old session.new steps.old.lower steps.new.lower) }
     ensures files { T.files tree.new ≡ T.files tree.old }
     ensures root { T.entered tree.new ≡ T.entered tree.old }
     ensures later { T.faults tree.old ≤ T.faults tree.new }

@@ -1,14 +1,15 @@
 //! A session: the commands of a script, each performed as it is read. The store isn't touched, and nothing of the tree is read
 //! but at a `report`.
 //!
-//! A command costs what reading it costs, a put and a cut what those of `Session` cost, and a `report` what its reply costs;
-//! the memory of a script is that of its longest command and of the edits so far.
+//! A command costs what reading it costs, a put and a cut what those of `Session` cost, and a `report` what its reply costs: of
+//! queries no more are lowered than are due since the report before, and so for a whole script (`work`). The memory of a script is
+//! that of its longest command, of the edits so far, and of what the last report left: a repository and its reports.
 ghost use Rattle.std.specs.Prelude.{◌≡◌, ◌≤◌, ◌<◌, ◌+◌, ℕ, List, Option, false, true, IfOk, IfErr, OnOk, Some};
 ghost use Rattle.std.specs.Option.{option_map};
 ghost use Rattle.gv_base.specs.FileMap.{FileMap};
 ghost use Rattle.gv_edits.specs.Script.{led_script, script_left};
 ghost use Rattle.gv_edits.specs.declared.edit.Edit.TheVariants as edits;
-ghost use Rattle.gv_session.specs.Session.{with_edit};
+ghost use Rattle.gv_session.specs.Session.{Agrees, with_edit};
 ghost use Rattle.gvis.specs.Asking.{AsksForSession};
 ghost use Rattle.gvis.specs.Performs.{Performs};
 ghost use Rattle.gvis.specs.Run.{world};
@@ -110,7 +111,8 @@ fn perform_command<T: Tree, S: Sink, L: Ledger>(
     out: &mut S,
     steps: &mut Steps<L>,
 ) -> Result<bool, Refusal>
-    ensures done { IfOk result (Does (T.files tree.old) session.old command.now session.new (writing (T.faults tree.old) (T.faults tree.new) (S.held out.old) (S.held out.new) (S.faults out.old) (S.faults out.new))) }
+    requires { Agrees (T.files tree.old) session.old }
+    ensures done { IfOk result (Does (T.files tree.old) session.old command.now session.new (writing (T.faults tree.old) (T.faults tree.new) (S.held out.old) (S.held out.new) (S.faults out.old) (S.faults out.new)) steps.old.lower steps.new.lower) }
     ensures cause { IfErr result (DoCause (T.files tree.old) session.old command.now (writing (T.faults tree.old) (T.faults tree.new) (S.held out.old) (S.held out.new) (S.faults out.old) (S.faults out.new))) }
     ensures files { T.files tree.new ≡ T.files tree.old }
     ensures root { T.entered tree.new ≡ T.entered tree.old }
@@ -145,13 +147,14 @@ fn step<T: Tree, I: Source, S: Sink, L: Ledger>(
     out: &mut S,
     steps: &mut Steps<L>,
 ) -> Result<bool, Refusal>
-    requires { reader.old.read ≤ 1000000 }
+    requires read { reader.old.read ≤ 1000000 }
+    requires agrees { Agrees (T.files tree.old) session.old }
     ensures done { IfOk result (StepIs (T.files tree.old)
-        (at session.old (script_left reader.old (I.left input.old)) reader.old.read (S.held out.old))
-        (at session.new (script_left reader.new (I.left input.new)) reader.new.read (S.held out.new))
+        (at session.old (script_left reader.old (I.left input.old)) reader.old.read (S.held out.old) steps.old.lower)
+        (at session.new (script_left reader.new (I.left input.new)) reader.new.read (S.held out.new) steps.new.lower)
         (leaving (T.faults tree.old) (T.faults tree.new) (I.faults input.old) (I.faults input.new) (S.held out.new) (S.faults out.old) (S.faults out.new))) }
     ensures cause { IfErr result (StopCause (T.files tree.old)
-        (at session.old (script_left reader.old (I.left input.old)) reader.old.read (S.held out.old))
+        (at session.old (script_left reader.old (I.left input.old)) reader.old.read (S.held out.old) steps.old.lower)
         (leaving (T.faults tree.old) (T.faults tree.new) (I.faults input.old) (I.faults input.new) (S.held out.new) (S.faults out.old) (S.faults out.new))) }
     ensures counted { OnOk result (reader.new.read ≡ reader.old.read + 1) }
     ensures more { OnOk result (reader.old.read < 1000000) }
@@ -175,12 +178,13 @@ fn serve_script<T: Tree, I: Source, S: Sink, L: Ledger>(
     out: &mut S,
     steps: &mut Steps<L>,
 ) -> Result<(), Refusal>
-    requires { reader.old.read ≤ 1000000 }
+    requires read { reader.old.read ≤ 1000000 }
+    requires agrees { Agrees (T.files tree.old) session.old }
     ensures done { OnOk result (Ends (T.files tree.old)
-        (at session.old (script_left reader.old (I.left input.old)) reader.old.read (S.held out.old))
-        (leaving (T.faults tree.old) (T.faults tree.new) (I.faults input.old) (I.faults input.new) (S.held out.new) (S.faults out.old) (S.faults out.new))) }
+        (at session.old (script_left reader.old (I.left input.old)) reader.old.read (S.held out.old) steps.old.lower)
+        (leaving (T.faults tree.old) (T.faults tree.new) (I.faults input.old) (I.faults input.new) (S.held out.new) (S.faults out.old) (S.faults out.new)) steps.new.lower) }
     ensures cause { IfErr result (StopCause (T.files tree.old)
-        (at session.old (script_left reader.old (I.left input.old)) reader.old.read (S.held out.old))
+        (at session.old (script_left reader.old (I.left input.old)) reader.old.read (S.held out.old) steps.old.lower)
         (leaving (T.faults tree.old) (T.faults tree.new) (I.faults input.old) (I.faults input.new) (S.held out.new) (S.faults out.old) (S.faults out.new))) }
     ensures files { T.files tree.new ≡ T.files tree.old }
     ensures root { T.entered tree.new ≡ T.entered tree.old }

@@ -1,5 +1,11 @@
-use Rattle.gvis.proofs.Replied.{unjudged}
+use Rattle.gvis.proofs.Replied.{sees, unjudged}
 use Rattle.gvis.proofs.replying.make_report.Goals as goal
+
+pub returns-in-Ok-clause-sees : goal.returns-in-Ok-clause-sees
+returns-in-Ok-clause-sees g c =
+    let after = c.report.ensures in
+    sees c.args.session.now c.report.new.self (g.T.Tree.files c.args.tree.now) (g.T.Tree.files c.report.new.tree) c.args.steps.now c.report.new.steps c.in-Ok.report c.in-Ok.ensures.text
+    after.options after.edits c.in-Ok.ensures.seen after.files after.agrees
 
 pub returns-in-Err-Judge-clause-cause : goal.returns-in-Err-Judge-clause-cause
 returns-in-Err-Judge-clause-cause g c =

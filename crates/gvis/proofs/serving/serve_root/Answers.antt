@@ -8,14 +8,14 @@ pub returns-in-Ok-serve_script-clause-performs : goal.returns-in-Ok-serve_script
 returns-in-Ok-serve_script-clause-performs g c = λ words before kept store_faults asks is.
     let ended = c.in-Ok-serve_script.ensures in
     served_from words c.args.sitting.now asks before _ (ended.root ∙ is) _ _ ended.files _ _ ended.tree_later kept store_faults _ _ _ _ ended.out_later _ _ _ _ _ _ _
-    (ap (λ (x : State). x.options) c.start-session.ensures ∙ c.in-Ok.ensures) (ap (λ (x : State). x.edits) c.start-session.ensures) (c.in-Ok-new.ensures.whole _) (ap (λ (r : Reading). r.read) c.in-Ok-new.ensures.new) refl
+    (ap (λ (x : State). x.options) c.start-session.ensures ∙ c.in-Ok.ensures) (ap (λ (x : State). x.edits) c.start-session.ensures) (ap (λ (x : State). x.last) c.start-session.ensures) (c.in-Ok-new.ensures.whole _) (ap (λ (r : Reading). r.read) c.in-Ok-new.ensures.new) refl refl
     ended.done
 
 pub returns-clause-performs : goal.returns-clause-performs
 returns-clause-performs g c = λ words before kept store_faults asks is.
     let ended = c.in-Err.ensures in
     stopped_from words c.args.sitting.now asks before _ (ended.root ∙ is) _ _ ended.files _ _ ended.tree_later kept store_faults _ _ _ _ ended.out_later _ _ _ _ _ _ _
-    (ap (λ (x : State). x.options) c.start-session.ensures ∙ c.in-Ok.ensures) (ap (λ (x : State). x.edits) c.start-session.ensures) (c.in-Ok-new.ensures.whole _) (ap (λ (r : Reading). r.read) c.in-Ok-new.ensures.new) refl
+    (ap (λ (x : State). x.options) c.start-session.ensures ∙ c.in-Ok.ensures) (ap (λ (x : State). x.edits) c.start-session.ensures) (ap (λ (x : State). x.last) c.start-session.ensures) (c.in-Ok-new.ensures.whole _) (ap (λ (r : Reading). r.read) c.in-Ok-new.ensures.new) refl refl
     c.in-Err.refusal ended.cause
 
 pub returns-in_default-clause-performs : goal.returns-in_default-clause-performs

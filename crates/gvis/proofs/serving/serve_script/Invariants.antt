@@ -1,5 +1,6 @@
 use Rattle.std.proofs.Common.{◌≡◌, ◌≤◌, ◌-◌}
 use Rattle.gv_edits.specs.Script.{script_left}
+use Rattle.gv_session.specs.Session.{Agrees}
 use Rattle.gvis.specs.SessionSteps.{Goes, at}
 use Rattle.gvis.proofs.serving.serve_script.Given as goal
 
@@ -7,9 +8,10 @@ use Rattle.gvis.proofs.serving.serve_script.Given as goal
 abbrev pub invariant-commands : goal.invariant-commands
 invariant-commands g l = record {
   goes : Goes (g.T.Tree.files l.fn.tree)
-      (at l.fn.session (script_left l.fn.reader (g.I.Source.left l.fn.input)) l.fn.reader.read (g.S.Sink.held l.fn.out))
-      (at l.session (script_left l.reader (g.I.Source.left l.input)) l.reader.read (g.S.Sink.held l.out));
+      (at l.fn.session (script_left l.fn.reader (g.I.Source.left l.fn.input)) l.fn.reader.read (g.S.Sink.held l.fn.out) l.fn.steps.lower)
+      (at l.session (script_left l.reader (g.I.Source.left l.input)) l.reader.read (g.S.Sink.held l.out) l.steps.lower);
   within : l.reader.read ≤ 1000000;
+  agrees : Agrees (g.T.Tree.files l.tree) l.session;
   files : g.T.Tree.files l.tree ≡ g.T.Tree.files l.fn.tree;
   root : g.T.Tree.entered l.tree ≡ g.T.Tree.entered l.fn.tree;
   tree : g.T.Tree.faults l.tree ≡ g.T.Tree.faults l.fn.tree;
