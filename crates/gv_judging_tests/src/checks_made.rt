@@ -108,6 +108,8 @@ impl Draft {
             bodies: self.bodies,
             profiles,
             lines: DescLines::new(alloc),
+            categories: Texts::new(alloc),
+            directories: Texts::new(alloc),
             notes: Reports::new(alloc),
         }
     }

@@ -8,6 +8,8 @@ mod facts;
 #[cfg(test)]
 mod load;
 #[cfg(test)]
+mod load_reread;
+#[cfg(test)]
 mod load_script;
 #[cfg(test)]
 mod profile;

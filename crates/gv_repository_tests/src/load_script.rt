@@ -38,7 +38,7 @@ pub(crate) fn append_number<R: Abort>(rt: &R, alloc: Global, text: &mut Text, nu
     append(rt, text, digits.as_bytes());
 }
 
-fn same<R: Abort>(rt: &R, what: &str, got: &[u8], want: &[u8]) {
+pub(crate) fn same<R: Abort>(rt: &R, what: &str, got: &[u8], want: &[u8]) {
     assert_eq!(rt; got, want, "{what}");
 }
 
@@ -120,7 +120,7 @@ fn add_profile<R: Abort>(rt: &R, got: &mut Text, profile: &Profile) {
     append(rt, got, b"\n");
 }
 
-fn repo_text<R: Abort>(rt: &R, alloc: Global, repo: &Repo) -> Text {
+pub(crate) fn repo_text<R: Abort>(rt: &R, alloc: Global, repo: &Repo) -> Text {
     let mut got = text(rt, alloc, b"");
     for note in repo.notes.items() {
         add_note(rt, alloc, &mut got, note);
