@@ -23,7 +23,7 @@ right_not : (a b : Bool) → (a || b) ≡ false → b ≡ false
 right_not true b is = cc
 right_not false b is = is
 
-turned : (b : Bool) → not b ≡ true → b ≡ false
+pub turned : (b : Bool) → not b ≡ true → b ≡ false
 turned true is = sym is
 turned false is = refl
 

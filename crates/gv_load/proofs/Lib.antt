@@ -22,6 +22,8 @@ pub mod EntryPaths
 pub mod EntryProfiles
 pub mod Fitting
 pub mod FrontPassing
+pub mod Interleaving
+pub mod JoinedLemmas
 pub mod JudgeLemmas
 pub mod Listings
 pub mod LoadLemmas

@@ -19,16 +19,19 @@ use Rattle.gv_report.specs.declared.report.Subject.{Subject}
 use Rattle.gv_report.specs.declared.report.Subject.TheVariants.{Place, Package}
 use Rattle.gv_version.specs.Order.{compare}
 use Rattle.gv_load.specs.EntryEdits.{AreClassless, DifferIn, HasEditedName, IsAllBut, IsPartOf, entry_name, is_about, is_edited, is_edited_pkg, is_other, members_of, pkg_name, together}
+use Rattle.gv_load.specs.Interleaved.{interleaved}
 use Rattle.gv_load.specs.MemberOrder.{member_total}
 use Rattle.gv_load.specs.Paths.{entry_path}
-use Rattle.gv_load.specs.Replacing.{IsAfter, IsChange, IsReplaced, are_named, edited_notes, has_edited_name, is_among, is_of_edited, members_among, members_with, replaced}
+use Rattle.gv_load.specs.Replacing.{IsAfter, IsChange, IsReplaced, are_named, edited_notes, has_edited_name, is_of_edited, members_with, replaced}
 use Rattle.gv_load.specs.Repository.{AreInPackageOrder, body_of, in_package_order, member_cmp, pkg_cmp, pkg_of, subject_of, with_body}
 use Rattle.gv_load.specs.declared.loading.Repo.{Repo}
 use Rattle.gv_load.specs.declared.members.Member.{Member}
 use Rattle.gv_load.specs.declared.replacing.Changed.TheVariants.{Part, Other}
+use Rattle.gv_load.proofs.Apart.{turned}
+use Rattle.gv_load.proofs.Interleaving.{interleaved_in_order}
 use Rattle.gv_load.proofs.MemberLemmas.{all_ascend, pkgs_ascend}
 use Rattle.gv_load.proofs.NoteClasses.{both}
-use Rattle.gv_load.proofs.Partings.{all_append, all_filter, all_mapped, all_puts, filter_outside, filter_within, others_stay, passes_all, put_together}
+use Rattle.gv_load.proofs.Partings.{all_append, all_filter, all_mapped, all_puts, ascends_filter, filter_outside, filter_within, others_stay, passes_all, put_together, puts_ascending}
 
 -- ---- packages with their bodies
 parts_again : (ms : List Member) → together (map pkg_of ms) (map body_of ms) ≡ ms
@@ -94,6 +97,20 @@ alike paths (Package c n v f) (Package d m w g) e =
     let third = both_equal (compare v w) (byte_cmp f g) second.1 in
     ap (λ x. has_text paths (entry_path x f)) (exact_bytes c d first.0) ∙ ap (λ x. has_text paths (entry_path d x)) (exact_bytes f g third.1)
 
+-- those that aren't edited of one list and those that are of the other
+pub put_in_order : (paths : List (List ℕ)) (ps qs : List Pkg) (bs cs : List Body) → AreInPackageOrder ps → AreInPackageOrder qs
+    → interleaved member_cmp (filter (is_other paths) (together ps bs)) (in_package_order (filter (is_of_edited paths) (together qs cs)))
+    ≡ in_package_order (filter (is_other paths) (together ps bs) ++ filter (is_of_edited paths) (together qs cs))
+put_in_order paths ps qs bs cs a b =
+    let olds = filter (is_other paths) (together ps bs) in
+    let news = filter (is_of_edited paths) (together qs cs) in
+    let up = ascends_filter member_total (is_of_edited paths) (together qs cs) (members_ascend qs cs b) in
+    ap (interleaved member_cmp olds) (puts_ascending member_total news up)
+    ∙ interleaved_in_order member_total (is_of_edited paths) (λ m n e. alike paths (subject_of m.pkg) (subject_of n.pkg) e) olds news
+    (ascends_filter member_total (is_other paths) (together ps bs) (members_ascend ps bs a))
+    (all_mapped (λ m. is_other paths m ≡ true) (λ m. is_of_edited paths m ≡ false) olds (λ m e. turned (is_of_edited paths m) e) (passes_all (is_other paths) (together ps bs)))
+    up (passes_all (is_of_edited paths) (together qs cs))
+
 about : (paths : List (List ℕ)) (s : Subject) (r : Report) → is_about s r ≡ true → is_edited paths s ≡ is_edited paths r.subject
 about paths s r e = alike paths s r.subject (ties (subject_cmp s r.subject) e)
 
@@ -125,13 +142,13 @@ module _ (paths : List (List ℕ)) where
       (λ m other edited. absurd (true≢false (sym other ∙ ap not edited))) (passes_all (is_other paths) ms)
 
   -- ---- one step: those that are added
-  pub added : (edited : Bool) (keys : List Member) (p : Pkg) (b : Body) (ms : List Member) →
-      fold (insert_key member_cmp) (cond (is_among edited paths p) (insert_key member_cmp keys (with_body b p)) keys) (members_among edited paths ms)
-      ≡ fold (insert_key member_cmp) keys (members_among edited paths (with_body b p ∷ ms))
-  added edited keys p b ms = by (is_among edited paths p)
+  pub added : (keys : List Member) (p : Pkg) (b : Body) (ms : List Member) →
+      fold (insert_key member_cmp) (cond (is_edited_pkg paths p) (insert_key member_cmp keys (with_body b p)) keys) (filter (is_of_edited paths) ms)
+      ≡ fold (insert_key member_cmp) keys (filter (is_of_edited paths) (with_body b p ∷ ms))
+  added keys p b ms = by (is_edited_pkg paths p)
     where
-      by : (c : Bool) → fold (insert_key member_cmp) (cond c (insert_key member_cmp keys (with_body b p)) keys) (members_among edited paths ms)
-          ≡ fold (insert_key member_cmp) keys (cond c (with_body b p ∷ members_among edited paths ms) (members_among edited paths ms))
+      by : (c : Bool) → fold (insert_key member_cmp) (cond c (insert_key member_cmp keys (with_body b p)) keys) (filter (is_of_edited paths) ms)
+          ≡ fold (insert_key member_cmp) keys (cond c (with_body b p ∷ filter (is_of_edited paths) ms) (filter (is_of_edited paths) ms))
       by true = refl
       by false = refl
 

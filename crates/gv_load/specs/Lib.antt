@@ -12,6 +12,8 @@ pub mod EntriesPass
 pub mod EntryEdits
 pub mod Faults
 pub mod Freshness
+pub mod Interleaved
+pub mod Joined
 pub mod Layout
 pub mod Loading
 pub mod Look

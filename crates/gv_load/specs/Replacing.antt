@@ -1,5 +1,5 @@
 -- A repository after edits of entries: what its packages are, and what it tells of whole repositories.
-use Rattle.std.specs.Prelude.{◌≡◌, ℕ, Bool, not, ◌||◌, cond, List, ◌++◌, length, map, filter}
+use Rattle.std.specs.Prelude.{◌≡◌, ℕ, Bool, not, ◌||◌, List, ◌++◌, length, map, filter}
 use Rattle.std.specs.List.{list_all}
 use Rattle.gv_base.specs.Order.{has_text}
 use Rattle.gv_facts.specs.declared.pkg.Pkg.{Pkg}
@@ -19,13 +19,6 @@ are_named paths pkgs = list_all (has_edited_name paths) pkgs
 
 abbrev pub is_of_edited : (paths : List (List ℕ)) → Member → Bool
 is_of_edited paths m = is_edited_pkg paths m.pkg
-
--- those that are edited, or those that aren't
-abbrev pub is_among : (edited : Bool) (paths : List (List ℕ)) → Pkg → Bool
-is_among edited paths p = cond edited (is_edited_pkg paths p) (not (is_edited_pkg paths p))
-
-abbrev pub members_among : (edited : Bool) (paths : List (List ℕ)) → List Member → List Member
-members_among edited paths members = filter (λ m. is_among edited paths m.pkg) members
 
 abbrev pub members_with : (paths : List (List ℕ)) (old new : Repo) → List Member
 members_with paths old new = in_package_order (filter (is_other paths) (members_of old) ++ filter (is_of_edited paths) (members_of new))

@@ -1,22 +1,22 @@
 //! The paths of edited entries.
 //!
-//! A path that is added costs O(its bytes) and O(log n) comparisons of texts among n paths; `is_edited` and `is_named` cost
-//! the same for the path, or the name, that they ask about.
-ghost use Rattle.std.specs.Prelude.{◌≡◌, [], ◌∷◌, ◌++◌, ◌+◌, ℕ, List, None, Some, map, IfOk, MatchOption, OnErr, OnOk};
+//! A path that is added costs O(its bytes) and O(log n) comparisons of texts among n paths. `is_edited`, `is_of` and `is_named` take no
+//! memory and cost what look-ups of `joined` do.
+ghost use Rattle.std.specs.Prelude.{◌≡◌, [], ◌∷◌, ◌++◌, ◌+◌, ◌||◌, ℕ, List, None, Some, map, IfOk, MatchOption, OnErr, OnOk};
+ghost use Rattle.std.specs.Str.{bytes_eq};
 ghost use Rattle.gv_base.specs.Cut.{after_prefix};
 ghost use Rattle.gv_base.specs.Order.{has_text};
 ghost use Rattle.gv_profile.specs.Paths.{within};
 ghost use Rattle.gv_load.specs.Categories.{name_of};
 ghost use Rattle.gv_load.specs.Paths.{entry_path};
-ghost use Rattle.gv_load.specs.EntryEdits.{entry_name, parts_behind};
+ghost use Rattle.gv_load.specs.EntryEdits.{entry_name, is_edited, parts_behind};
 
 use crate::categories::{behind, name_in};
-use crate::paths::entry_path;
-use crate::reaching::{add_key, has_key};
+use crate::joined::{Joined, behind_front};
 use gv_base::{NoMemory, Text, Texts, until};
 use gv_profile::within;
+use gv_report::Subject;
 use std::alloc::Global;
-use std::collections::BTreeSet;
 use std::marker::Model;
 use std::mem;
 
@@ -24,8 +24,10 @@ use std::mem;
 #[derive(Drop)]
 pub struct EntryEdits {
     paths: Texts,
-    keys: BTreeSet<Text>,
-    names: BTreeSet<Text>,
+    // what follows the folder of entries
+    entries: Joined,
+    // of the packages
+    names: Joined,
 }
 
 impl Model for EntryEdits {
@@ -36,7 +38,7 @@ impl Model for EntryEdits {
 
     ghost view = { λ e. e.paths };
 
-    ghost invariant = { λ e. AreKeys e.paths e.keys.keys e.names.keys };
+    ghost invariant = { λ e. AreKeys e.paths e.entries e.names };
 }
 
 impl EntryEdits {
@@ -46,8 +48,8 @@ impl EntryEdits {
     {
         EntryEdits {
             paths: Texts::new(alloc),
-            keys: BTreeSet::new(alloc),
-            names: BTreeSet::new(alloc),
+            entries: Joined::new(alloc),
+            names: Joined::new(alloc),
         }
     }
 
@@ -68,36 +70,67 @@ impl EntryEdits {
         self.paths.items()
     }
 
-    /// Whether the entry of this PF is edited.
-    pub fn is_edited(&self, alloc: Global, category: &Text, pf: &Text) -> Result<bool, NoMemory>
-        ensures { IfOk result (λ is. is ≡ has_text self.now (entry_path category.now pf.now)) }
+    /// CATEGORY/NAME of each path, in the order of these.
+    pub fn names(&self) -> &[Text]
+        ensures { result.now ≡ map entry_name self.now }
     {
-        let path = entry_path(alloc, category, pf)?;
-        Ok(has_key(&self.keys, &path))
+        self.names.items()
+    }
+
+    /// Whether the entry of this PF is edited.
+    pub fn is_edited(&self, category: &Text, pf: &Text) -> bool
+        ensures { result ≡ has_text self.now (entry_path category.now pf.now) }
+    {
+        self.entries.has(category, pf)
+    }
+
+    /// Whether this is a package whose entry is edited.
+    pub fn is_of(&self, subject: &Subject) -> bool
+        ensures { result ≡ is_edited self.now subject.now }
+    {
+        match subject {
+            Subject::Place { .. } => false,
+            Subject::Package { category, pf, .. } => self.is_edited(category, pf),
+        }
     }
 
     /// Whether an entry of a package of this name is edited.
-    pub fn is_named(&self, alloc: Global, category: &Text, name: &Text) -> Result<bool, NoMemory>
-        ensures { IfOk result (λ is. is ≡ has_text (map entry_name self.now) (within category.now name.now)) }
+    pub fn is_named(&self, category: &Text, name: &Text) -> bool
+        ensures { result ≡ has_text (map entry_name self.now) (within category.now name.now) }
     {
-        let whole = within(alloc, category, name.bytes())?;
-        Ok(has_key(&self.names, &whole))
+        self.names.has(category, name)
     }
 }
 
-#[tactic(auto, using(crate::proofs::EditLemmas::keys_with))]
 fn with_path(alloc: Global, edits: EntryEdits, path: &Text) -> Result<EntryEdits, NoMemory>
     ensures { IfOk result (λ edits_. edits_ ≡ edits ++ path.now ∷ []) }
 {
     let EntryEdits {
         mut paths,
-        mut keys,
-        mut names,
+        entries,
+        names,
     } = edits;
-    add_key(&mut names, entry_name(alloc, path)?)?;
-    add_key(&mut keys, path.copy(alloc)?)?;
+    let names = names.with(alloc, entry_name(alloc, path)?)?;
+    let entries = with_entry(alloc, entries, path)?;
     paths.add(path.copy(alloc)?)?;
-    Ok(EntryEdits { paths, keys, names })
+    Ok(EntryEdits {
+        paths,
+        entries,
+        names,
+    })
+}
+
+// A path outside the folder of entries is that of none.
+fn with_entry(alloc: Global, entries: Joined, path: &Text) -> Result<Joined, NoMemory>
+    ensures { IfOk result (λ more. (category pf : List ℕ) → has_text more (within category pf) ≡ (bytes_eq (entry_path category pf) path.now || has_text entries (within category pf))) }
+{
+    match behind_front(b"metadata/md5-cache/", path.bytes()) {
+        Some(rest) => {
+            let more = entries.with(alloc, Text::of(alloc, rest)?)?;
+            Ok(more)
+        }
+        None => Ok(entries),
+    }
 }
 
 pub(crate) fn after_prefix<'a>(prefix: &[u8], path: &'a [u8]) -> Option<&'a [u8]>

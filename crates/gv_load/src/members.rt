@@ -1,5 +1,6 @@
 //! Packages with their expressions, in package order: O(log n) comparisons for each of n packages.
 ghost use Rattle.std.specs.Prelude.{◌≡◌, ◌∷◌, [], ◌++◌, map, IfOk, OnOk, OnErr};
+ghost use Rattle.std.specs.Ordering.{is_lt};
 ghost use Rattle.gv_load.specs.Members.{with_all, with_member};
 ghost use Rattle.gv_load.specs.Repository.{AreInPackageOrder, body_of, in_package_order, member_cmp, member_in, member_of, members_in, pkg_of};
 
@@ -34,6 +35,13 @@ impl Member {
                     .then_with(|| one.pf.cmp(&two.pf))
             })
         })
+    }
+
+    /// Whether it comes before the other one.
+    pub(crate) fn is_before(&self, other: &Member) -> bool
+        ensures { result ≡ is_lt (member_cmp self.now other.now) }
+    {
+        matches!(self.compare(other), Ordering::Less)
     }
 }
 
@@ -154,6 +162,41 @@ pub(crate) struct Packages {
     pub bodies: Bodies,
 }
 
+impl Packages {
+    /// No packages.
+    pub fn new(alloc: Global) -> Packages
+        ensures pkgs { result.pkgs ≡ [] }
+        ensures bodies { result.bodies ≡ [] }
+    {
+        Packages {
+            pkgs: Pkgs::new(alloc),
+            bodies: Bodies::new(alloc),
+        }
+    }
+
+    /// Adds a package and its body at the ends.
+    pub fn add(&mut self, member: Member) -> Result<(), NoMemory>
+        ensures pkgs { OnOk result (self.new.pkgs ≡ self.old.pkgs ++ member.pkg ∷ []) }
+        ensures bodies { OnOk result (self.new.bodies ≡ self.old.bodies ++ member.body ∷ []) }
+    {
+        let Member { pkg, body } = member;
+        self.pkgs.add(pkg)?;
+        self.bodies.add(body)?;
+        Ok(())
+    }
+
+    /// Adds these in their order.
+    pub fn add_all(&mut self, mut members: BTreeSet<Member>) -> Result<(), NoMemory>
+        ensures pkgs { OnOk result (self.new.pkgs ≡ self.old.pkgs ++ map pkg_of members.keys) }
+        ensures bodies { OnOk result (self.new.bodies ≡ self.old.bodies ++ map body_of members.keys) }
+    {
+        while let Some(member) = members.pop_first() {
+            self.add(member)?;
+        }
+        Ok(())
+    }
+}
+
 /// The packages that current entries say, in package order, with their bodies.
 pub(crate) fn packages_in(alloc: Global, kepts: PfsKept) -> Result<Packages, NoMemory>
     ensures pkgs { IfOk result (λ packages. packages.pkgs ≡ map pkg_of (in_package_order (members_in kepts))) }
@@ -197,16 +240,12 @@ fn in_order(alloc: Global, kepts: PfsKept) -> Result<BTreeSet<Member>, NoMemory>
     Ok(members)
 }
 
-/// The packages in their order, and their bodies.
-pub(crate) fn apart(alloc: Global, mut members: BTreeSet<Member>) -> Result<Packages, NoMemory>
+// The packages in their order, and their bodies.
+fn apart(alloc: Global, members: BTreeSet<Member>) -> Result<Packages, NoMemory>
     ensures pkgs { IfOk result (λ packages. packages.pkgs ≡ map pkg_of members.keys) }
     ensures bodies { IfOk result (λ packages. packages.bodies ≡ map body_of members.keys) }
 {
-    let mut pkgs = Pkgs::new(alloc);
-    let mut bodies = Bodies::new(alloc);
-    while let Some(member) = members.pop_first() {
-        pkgs.add(member.pkg)?;
-        bodies.add(member.body)?;
-    }
-    Ok(Packages { pkgs, bodies })
+    let mut packages = Packages::new(alloc);
+    packages.add_all(members)?;
+    Ok(packages)
 }

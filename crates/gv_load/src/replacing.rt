@@ -1,17 +1,20 @@
-//! A repository after edits of entries, without reading the others anew. Packages and their bodies are moved. Costs O(log n)
-//! comparisons and one path for each of n packages.
-ghost use Rattle.std.specs.Prelude.{◌≡◌, ◌++◌, cond, false, fold, length, true, IfOk, OnOk};
+//! A repository after edits of entries, without reading the others anew. Packages and their bodies are moved. Costs a look-up of
+//! `entry_edits` for each package and each note, and a comparison for each package; and O(log k) comparisons for each of k edited ones.
+ghost use Rattle.std.specs.Prelude.{◌≡◌, ◌∷◌, [], ◌++◌, cond, filter, fold, length, map, List, IfOk, MatchOption, OnOk};
 ghost use Rattle.std.specs.BTreeSet.{insert_key};
-ghost use Rattle.gv_load.specs.EntryEdits.{AreClassless, is_edited, together};
-ghost use Rattle.gv_load.specs.Replacing.{IsChange, are_named, edited_notes, has_edited_name, is_among, members_among, replaced};
-ghost use Rattle.gv_load.specs.Repository.{AreInPackageOrder, in_package_order, member_cmp};
+ghost use Rattle.std.specs.declared.cmp.Ordering.TheVariants.{Less};
+ghost use Rattle.gv_load.specs.EntryEdits.{AreClassless, is_edited_pkg, is_other, together};
+ghost use Rattle.gv_load.specs.Interleaved.{ahead, interleaved, is_next, left};
+ghost use Rattle.gv_load.specs.Replacing.{IsChange, are_named, edited_notes, has_edited_name, is_of_edited, replaced};
+ghost use Rattle.gv_load.specs.Repository.{AreInPackageOrder, body_of, in_package_order, member_cmp, pkg_of};
+ghost use Rattle.gv_load.specs.declared.members.Member.{Member};
 
 use crate::entry_edits::EntryEdits;
 use crate::loading::Repo;
-use crate::members::{Member, Packages, apart};
+use crate::members::{Member, Packages};
 use gv_base::NoMemory;
 use gv_facts::Pkg;
-use gv_report::{Report, Reports, Subject};
+use gv_report::{Report, Reports};
 use std::alloc::Global;
 use std::collections::BTreeSet;
 
@@ -40,10 +43,10 @@ pub fn with_entries(
     requires new_classless { AreClassless new.notes }
     ensures { IfOk result (IsChange edits.now old new) }
 {
-    if !are_named(alloc, old.pkgs.items(), edits)? {
+    if !are_named(old.pkgs.items(), edits) {
         return Ok(Changed::Other { repo: new });
     }
-    if !are_named(alloc, new.pkgs.items(), edits)? {
+    if !are_named(new.pkgs.items(), edits) {
         return Ok(Changed::Other { repo: new });
     }
     let repo = replaced(alloc, old, new, edits)?;
@@ -56,6 +59,8 @@ pub(crate) fn replaced(
     new: Repo,
     edits: &EntryEdits,
 ) -> Result<Repo, NoMemory>
+    requires old_order { AreInPackageOrder old.pkgs }
+    requires new_order { AreInPackageOrder new.pkgs }
     ensures { IfOk result (λ repo. repo ≡ replaced edits.now old new) }
 {
     let Repo {
@@ -75,8 +80,7 @@ pub(crate) fn replaced(
         ..
     } = new;
     let read = Packages { pkgs, bodies };
-    let members = members_with(alloc, standing, read, edits)?;
-    let packages = apart(alloc, members)?;
+    let packages = packages_with(alloc, standing, read, edits)?;
     let notes = edited_notes(alloc, notes.items(), edits)?;
     Ok(Repo {
         pkgs: packages.pkgs,
@@ -90,81 +94,168 @@ pub(crate) fn replaced(
 }
 
 // Those of the old ones that aren't edited, and those of the new ones that are.
-fn members_with(
+fn packages_with(
     alloc: Global,
     old: Packages,
     new: Packages,
     edits: &EntryEdits,
+) -> Result<Packages, NoMemory>
+    requires old_order { AreInPackageOrder old.pkgs }
+    requires new_order { AreInPackageOrder new.pkgs }
+    ensures pkgs { IfOk result (λ packages. packages.pkgs ≡ map pkg_of (in_package_order (filter (is_other edits.now) (together old.pkgs old.bodies) ++ filter (is_of_edited edits.now) (together new.pkgs new.bodies)))) }
+    ensures bodies { IfOk result (λ packages. packages.bodies ≡ map body_of (in_package_order (filter (is_other edits.now) (together old.pkgs old.bodies) ++ filter (is_of_edited edits.now) (together new.pkgs new.bodies)))) }
+{
+    let mut edited = edited_members(alloc, new, edits)?;
+    let mut packages = Packages::new(alloc);
+    add_standing(&mut packages, &mut edited, old, edits)?;
+    packages.add_all(edited)?;
+    Ok(packages)
+}
+
+fn edited_members(
+    alloc: Global,
+    packages: Packages,
+    edits: &EntryEdits,
 ) -> Result<BTreeSet<Member>, NoMemory>
-    ensures { IfOk result (λ members. members.keys ≡ in_package_order (members_among false edits.now (together old.pkgs old.bodies) ++ members_among true edits.now (together new.pkgs new.bodies))) }
+    ensures { IfOk result (λ members. members.keys ≡ in_package_order (filter (is_of_edited edits.now) (together packages.pkgs packages.bodies))) }
 {
     let mut members = BTreeSet::new(alloc);
-    add_members(alloc, &mut members, old, edits, false)?;
-    add_members(alloc, &mut members, new, edits, true)?;
+    add_edited(&mut members, packages, edits)?;
     Ok(members)
 }
 
-// Those of the packages that are edited, or those that aren't.
 #[tactic(auto, using(crate::proofs::Replaces::added))]
-fn add_members(
-    alloc: Global,
+fn add_edited(
     members: &mut BTreeSet<Member>,
     packages: Packages,
     edits: &EntryEdits,
-    edited: bool,
 ) -> Result<(), NoMemory>
-    ensures { OnOk result (members.new.keys ≡ fold (insert_key member_cmp) members.old.keys (members_among edited edits.now (together packages.pkgs packages.bodies))) }
+    ensures { OnOk result (members.new.keys ≡ fold (insert_key member_cmp) members.old.keys (filter (is_of_edited edits.now) (together packages.pkgs packages.bodies))) }
 {
     let mut bodies = packages.bodies.into_items().into_iter();
     for pkg in packages.pkgs.into_items() {
         let Some(body) = bodies.next() else {
             return Ok(());
         };
-        add_member(alloc, members, Member { pkg, body }, edits, edited)?;
+        add_if_edited(members, Member { pkg, body }, edits)?;
     }
     Ok(())
 }
 
-fn add_member(
-    alloc: Global,
+fn add_if_edited(
     members: &mut BTreeSet<Member>,
     member: Member,
     edits: &EntryEdits,
-    edited: bool,
 ) -> Result<(), NoMemory>
-    ensures { OnOk result (members.new.keys ≡ cond (is_among edited edits.now member.pkg) (insert_key member_cmp members.old.keys member) members.old.keys) }
+    ensures { OnOk result (members.new.keys ≡ cond (is_edited_pkg edits.now member.pkg) (insert_key member_cmp members.old.keys member) members.old.keys) }
 {
-    if is_among(alloc, &member.pkg, edits, edited)? {
+    if edits.is_edited(&member.pkg.category, &member.pkg.pf) {
         members.insert(member)?;
     }
     Ok(())
 }
 
-fn is_among(alloc: Global, pkg: &Pkg, edits: &EntryEdits, edited: bool) -> Result<bool, NoMemory>
-    ensures { IfOk result (λ is. is ≡ is_among edited edits.now pkg.now) }
+// Adds the old ones that aren't edited, and the edited ones that come before one of these, each where it belongs.
+fn add_standing(
+    packages: &mut Packages,
+    edited: &mut BTreeSet<Member>,
+    old: Packages,
+    edits: &EntryEdits,
+) -> Result<(), NoMemory>
+    ensures pkgs { OnOk result (packages.new.pkgs ++ map pkg_of edited.new.keys ≡ packages.old.pkgs ++ map pkg_of (interleaved member_cmp (filter (is_other edits.now) (together old.pkgs old.bodies)) edited.old.keys)) }
+    ensures bodies { OnOk result (packages.new.bodies ++ map body_of edited.new.keys ≡ packages.old.bodies ++ map body_of (interleaved member_cmp (filter (is_other edits.now) (together old.pkgs old.bodies)) edited.old.keys)) }
 {
-    let is = edits.is_edited(alloc, &pkg.category, &pkg.pf)?;
-    if edited { Ok(is) } else { Ok(!is) }
+    let mut bodies = old.bodies.into_items().into_iter();
+    for pkg in old.pkgs.into_items() {
+        let Some(body) = bodies.next() else {
+            return Ok(());
+        };
+        add_if_other(packages, edited, Member { pkg, body }, edits)?;
+    }
+    Ok(())
 }
 
-pub(crate) fn are_named(alloc: Global, pkgs: &[Pkg], edits: &EntryEdits) -> Result<bool, NoMemory>
-    ensures { IfOk result (λ are. are ≡ are_named edits.now pkgs.now) }
+fn add_if_other(
+    packages: &mut Packages,
+    edited: &mut BTreeSet<Member>,
+    member: Member,
+    edits: &EntryEdits,
+) -> Result<(), NoMemory>
+    ensures pkgs { OnOk result ((rest : List Member) → packages.new.pkgs ++ map pkg_of (interleaved member_cmp rest edited.new.keys) ≡ packages.old.pkgs ++ map pkg_of (interleaved member_cmp (cond (is_other edits.now member) (member ∷ rest) rest) edited.old.keys)) }
+    ensures bodies { OnOk result ((rest : List Member) → packages.new.bodies ++ map body_of (interleaved member_cmp rest edited.new.keys) ≡ packages.old.bodies ++ map body_of (interleaved member_cmp (cond (is_other edits.now member) (member ∷ rest) rest) edited.old.keys)) }
+{
+    if !edits.is_edited(&member.pkg.category, &member.pkg.pf) {
+        add_other(packages, edited, member)?;
+    }
+    Ok(())
+}
+
+fn add_other(
+    packages: &mut Packages,
+    edited: &mut BTreeSet<Member>,
+    member: Member,
+) -> Result<(), NoMemory>
+    ensures pkgs { OnOk result ((rest : List Member) → packages.new.pkgs ++ map pkg_of (interleaved member_cmp rest edited.new.keys) ≡ packages.old.pkgs ++ map pkg_of (interleaved member_cmp (member ∷ rest) edited.old.keys)) }
+    ensures bodies { OnOk result ((rest : List Member) → packages.new.bodies ++ map body_of (interleaved member_cmp rest edited.new.keys) ≡ packages.old.bodies ++ map body_of (interleaved member_cmp (member ∷ rest) edited.old.keys)) }
+{
+    add_ahead(packages, edited, &member)?;
+    packages.add(member)?;
+    Ok(())
+}
+
+// Adds the edited ones that come before a member.
+fn add_ahead(
+    packages: &mut Packages,
+    edited: &mut BTreeSet<Member>,
+    member: &Member,
+) -> Result<(), NoMemory>
+    ensures pkgs { OnOk result (packages.new.pkgs ≡ packages.old.pkgs ++ map pkg_of (ahead member_cmp member.now edited.old.keys)) }
+    ensures bodies { OnOk result (packages.new.bodies ≡ packages.old.bodies ++ map body_of (ahead member_cmp member.now edited.old.keys)) }
+    ensures others { OnOk result (edited.new.keys ≡ left member_cmp member.now edited.old.keys) }
+{
+    while let Some(next) = next_before(edited, member) {
+        packages.add(next)?;
+    }
+    Ok(())
+}
+
+fn next_before(edited: &mut BTreeSet<Member>, member: &Member) -> Option<Member>
+    ensures { MatchOption result ((edited.new.keys ≡ edited.old.keys) × (ahead member_cmp member.now edited.old.keys ≡ []) × (left member_cmp member.now edited.old.keys ≡ edited.old.keys)) (λ next. (edited.old.keys ≡ next ∷ edited.new.keys) × (member_cmp next member.now ≡ Less)) }
+{
+    if is_next(edited, member) {
+        edited.pop_first()
+    } else {
+        None
+    }
+}
+
+fn is_next(edited: &BTreeSet<Member>, member: &Member) -> bool
+    ensures { result ≡ is_next member_cmp member.now edited.now.keys }
+{
+    match edited.first() {
+        Some(first) => first.is_before(member),
+        None => false,
+    }
+}
+
+pub(crate) fn are_named(pkgs: &[Pkg], edits: &EntryEdits) -> bool
+    ensures { result ≡ are_named edits.now pkgs.now }
 {
     for pkg in pkgs {
-        if !has_edited_name(alloc, pkg, edits)? {
-            return Ok(false);
+        if !has_edited_name(pkg, edits) {
+            return false;
         }
     }
-    Ok(true)
+    true
 }
 
-fn has_edited_name(alloc: Global, pkg: &Pkg, edits: &EntryEdits) -> Result<bool, NoMemory>
-    ensures { IfOk result (λ has. has ≡ has_edited_name edits.now pkg.now) }
+fn has_edited_name(pkg: &Pkg, edits: &EntryEdits) -> bool
+    ensures { result ≡ has_edited_name edits.now pkg.now }
 {
-    if edits.is_edited(alloc, &pkg.category, &pkg.pf)? {
-        edits.is_named(alloc, &pkg.category, &pkg.name)
+    if edits.is_edited(&pkg.category, &pkg.pf) {
+        edits.is_named(&pkg.category, &pkg.name)
     } else {
-        Ok(true)
+        true
     }
 }
 
@@ -173,18 +264,9 @@ fn edited_notes(alloc: Global, notes: &[Report], edits: &EntryEdits) -> Result<R
 {
     let mut edited = Reports::new(alloc);
     for note in notes {
-        if is_edited(alloc, &note.subject, edits)? {
+        if edits.is_of(&note.subject) {
             edited.add(note.copy(alloc)?)?;
         }
     }
     Ok(edited)
-}
-
-fn is_edited(alloc: Global, subject: &Subject, edits: &EntryEdits) -> Result<bool, NoMemory>
-    ensures { IfOk result (λ is. is ≡ is_edited edits.now subject.now) }
-{
-    match subject {
-        Subject::Place { .. } => Ok(false),
-        Subject::Package { category, pf, .. } => edits.is_edited(alloc, category, pf),
-    }
 }

@@ -87,6 +87,7 @@ fn put_together(
     read: EditedRead,
     edits: &EntryEdits,
 ) -> Result<Reread, NoMemory>
+    requires old_order { AreInPackageOrder old.pkgs }
     ensures { IfOk result (IsPutTogether edits.now old found read) }
 {
     if has_text(&old.categories, b"metadata") {
@@ -105,13 +106,14 @@ fn with_kepts(
     kepts: PfsKept,
     edits: &EntryEdits,
 ) -> Result<Reread, NoMemory>
+    requires old_order { AreInPackageOrder old.pkgs }
     ensures { IfOk result (IsMadeOf edits.now old found kepts) }
 {
     let new = small(alloc, kepts)?;
-    if !are_named(alloc, old.pkgs.items(), edits)? {
+    if !are_named(old.pkgs.items(), edits) {
         return Ok(Reread::Unclear { repo: old });
     }
-    if !are_named(alloc, new.pkgs.items(), edits)? {
+    if !are_named(new.pkgs.items(), edits) {
         return Ok(Reread::Unclear { repo: old });
     }
     let repo = replaced(alloc, old, new, edits)?;
@@ -120,7 +122,8 @@ fn with_kepts(
 
 // The repository of these PFs alone.
 fn small(alloc: Global, kepts: PfsKept) -> Result<Repo, NoMemory>
-    ensures { IfOk result (λ repo. repo ≡ small kepts) }
+    ensures value { IfOk result (λ repo. repo ≡ small kepts) }
+    ensures order { IfOk result (λ repo. AreInPackageOrder repo.pkgs) }
 {
     let mut notes = Reports::new(alloc);
     add_pfs(alloc, &mut notes, &kepts)?;
