@@ -1,26 +1,27 @@
 //! Keys of queries: what tells whether two contexts of a package have one and the same query, without its gates.
 //!
 //! A key costs O(1) for each mention of a flag that is plain in all profiles, for any other its state, for each package that
-//! an atom matches O(1), and where that is visible the same for the flags that the atom's items name. It takes no memory but
-//! that of the bytes that are added.
+//! an atom matches what the candidates' `is_visible` costs, and where that is visible the same for the flags that the atom's
+//! items name. It takes no memory but that of the bytes that are added.
 ghost use Rattle.std.specs.Prelude.{◌≡◌, ◌++◌, ◌∷◌, List, flat_map, OnOk};
 ghost use Rattle.std.specs.List.{AllByRecursion};
 ghost use Rattle.gv_entry.specs.Allowed.{Parent};
 ghost use Rattle.gv_expr.specs.Dep.{Dep};
 ghost use Rattle.gv_expr.specs.Required.{Req};
 ghost use Rattle.gv_facts.specs.States.{state};
-ghost use Rattle.gv_lower.specs.Around.{alone};
+ghost use Rattle.gv_lower.specs.Around.{alone, parent_of};
 ghost use Rattle.gv_lower.specs.Keys.{HaveSameAllowed, HaveSameFailing, class_key, other_key, own_key, query_key, required_key};
 ghost use Rattle.gv_lower.specs.KeysAround.{AreKnown, IsKnownAt, other_keys, own_keys, place_key, site_key};
 ghost use Rattle.gv_usestate.specs.Kinds.{IsOneOf};
-ghost use Rattle.gv_visible.specs.VisiblePkgs.{are_visible};
+ghost use Rattle.gv_visible.specs.Candidates.{level_of, pkgs_of, profile_of, test_of};
+ghost use Rattle.gv_visible.specs.StoredTest.{AnswersVisible};
 
 use crate::known::KnownFlag;
 use crate::sites::{AtomSite, ClassSites, PlaceSite, RequiredFlags};
 use gv_base::NoMemory;
 use gv_facts::{FlagState, Level, Pkg};
 use gv_usestate::{PkgInProfile, ProfileStates, kind_law};
-use gv_visible::{BitList, VisiblePkgs};
+use gv_visible::Candidates;
 
 /// Two parents of the same EAPI have one and the same query about REQUIRED_USE where the keys of REQUIRED_USE are equal, and
 /// about a class where those of the whole query are.
@@ -43,24 +44,23 @@ pub fn add_required_key(
     add_own(flags.flags(), flags.pkg(), states, level, key)
 }
 
-/// Adds the key of a class of the package at this level, among the packages that the profile shows, which is one of those of the
-/// sites. Behind that of its REQUIRED_USE it makes that of the query.
-pub fn add_class_key(
+/// Adds the key of a class of the package among the candidates, whose profile is one of those of the sites. Behind that of its
+/// REQUIRED_USE it makes that of the query.
+pub fn add_class_key<F: Fn(&Pkg) -> bool>(
     sites: &ClassSites<'_>,
-    seen: &VisiblePkgs<'_>,
+    candidates: &Candidates<'_, F>,
     states: &ProfileStates<'_>,
-    level: Level,
     key: &mut Vec<u8>,
 ) -> Result<(), NoMemory>
-    requires pkgs { sites.now.pkgs ≡ seen.now.pkgs }
-    requires profile { states.now ≡ seen.now.profile }
+    requires test { AnswersVisible (F.pre (test_of candidates.now)) (F.post (test_of candidates.now)) (profile_of candidates.now) (level_of candidates.now) }
+    requires pkgs { sites.now.pkgs ≡ pkgs_of candidates.now }
+    requires profile { states.now ≡ profile_of candidates.now }
     requires one { IsOneOf sites.now.profiles states.now }
-    ensures { OnOk result (key.new.items ≡ key.old.items ++ class_key (record { pkg = sites.now.of; profile = seen.now.profile; level = level; among = seen.now.pkgs }) sites.now.class) }
+    ensures { OnOk result (key.new.items ≡ key.old.items ++ class_key (parent_of candidates.now sites.now.of) sites.now.class) }
 {
     kind_law();
-    add_own(sites.flags(), sites.pkg(), states, level, key)?;
-    let pkgs = seen.index().pkgs().items();
-    add_atoms(sites.atoms(), seen.at(level), pkgs, states, level, key)
+    add_own(sites.flags(), sites.pkg(), states, candidates.level(), key)?;
+    add_atoms(sites.atoms(), candidates, states, key)
 }
 
 fn own_key(state: FlagState) -> u8
@@ -139,62 +139,58 @@ fn add_candidate(
 }
 
 // The package at this place, where it is visible.
-fn add_shown(
+fn add_shown<F: Fn(&Pkg) -> bool>(
     site: &PlaceSite<'_>,
-    shown: &BitList,
-    pkgs: &[Pkg],
+    candidates: &Candidates<'_, F>,
     states: &ProfileStates<'_>,
-    level: Level,
     key: &mut Vec<u8>,
 ) -> Result<(), NoMemory>
-    requires shown { shown.now ≡ are_visible states.now level pkgs.now }
-    requires known { IsKnownAt states.now pkgs.now site.now }
-    ensures { OnOk result (key.new.items ≡ key.old.items ++ place_key states.now level pkgs.now site.now) }
+    requires test { AnswersVisible (F.pre (test_of candidates.now)) (F.post (test_of candidates.now)) (profile_of candidates.now) (level_of candidates.now) }
+    requires profile { states.now ≡ profile_of candidates.now }
+    requires known { IsKnownAt states.now (pkgs_of candidates.now) site.now }
+    ensures { OnOk result (key.new.items ≡ key.old.items ++ place_key states.now (level_of candidates.now) (pkgs_of candidates.now) site.now) }
 {
-    let place = site.place() as usize;
-    let is_shown = shown.get(place);
-    match pkgs.get(place) {
-        Some(pkg) if is_shown == Some(true) => {
-            add_candidate(site.flags(), pkg, states, level, key)
+    let place = site.place();
+    match candidates.pkgs().items().get(place as usize) {
+        Some(pkg) if candidates.is_visible(place, pkg) => {
+            add_candidate(site.flags(), pkg, states, candidates.level(), key)
         }
         _ => Ok(()),
     }
 }
 
 // Each visible package that the atom matches, and the mark behind them.
-fn add_atom(
+fn add_atom<F: Fn(&Pkg) -> bool>(
     site: &AtomSite<'_>,
-    shown: &BitList,
-    pkgs: &[Pkg],
+    candidates: &Candidates<'_, F>,
     states: &ProfileStates<'_>,
-    level: Level,
     key: &mut Vec<u8>,
 ) -> Result<(), NoMemory>
-    requires shown { shown.now ≡ are_visible states.now level pkgs.now }
-    requires known { AllByRecursion (IsKnownAt states.now pkgs.now) site.now }
-    ensures { OnOk result (key.new.items ≡ key.old.items ++ site_key states.now level pkgs.now site.now) }
+    requires test { AnswersVisible (F.pre (test_of candidates.now)) (F.post (test_of candidates.now)) (profile_of candidates.now) (level_of candidates.now) }
+    requires profile { states.now ≡ profile_of candidates.now }
+    requires known { AllByRecursion (IsKnownAt states.now (pkgs_of candidates.now)) site.now }
+    ensures { OnOk result (key.new.items ≡ key.old.items ++ site_key states.now (level_of candidates.now) (pkgs_of candidates.now) site.now) }
 {
     for place in site.places() {
-        add_shown(place, shown, pkgs, states, level, key)?;
+        add_shown(place, candidates, states, key)?;
     }
     key.push(0)?;
     Ok(())
 }
 
-fn add_atoms(
+fn add_atoms<F: Fn(&Pkg) -> bool>(
     sites: &[AtomSite<'_>],
-    shown: &BitList,
-    pkgs: &[Pkg],
+    candidates: &Candidates<'_, F>,
     states: &ProfileStates<'_>,
-    level: Level,
     key: &mut Vec<u8>,
 ) -> Result<(), NoMemory>
-    requires shown { shown.now ≡ are_visible states.now level pkgs.now }
-    requires known { AllByRecursion (AllByRecursion (IsKnownAt states.now pkgs.now)) sites.now }
-    ensures { OnOk result (key.new.items ≡ key.old.items ++ flat_map (site_key states.now level pkgs.now) sites.now) }
+    requires test { AnswersVisible (F.pre (test_of candidates.now)) (F.post (test_of candidates.now)) (profile_of candidates.now) (level_of candidates.now) }
+    requires profile { states.now ≡ profile_of candidates.now }
+    requires known { AllByRecursion (AllByRecursion (IsKnownAt states.now (pkgs_of candidates.now))) sites.now }
+    ensures { OnOk result (key.new.items ≡ key.old.items ++ flat_map (site_key states.now (level_of candidates.now) (pkgs_of candidates.now)) sites.now) }
 {
     for site in sites {
-        add_atom(site, shown, pkgs, states, level, key)?;
+        add_atom(site, candidates, states, key)?;
     }
     Ok(())
 }

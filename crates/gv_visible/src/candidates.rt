@@ -179,8 +179,8 @@ impl<'a, F: Fn(&Pkg) -> bool> Candidates<'a, F> {
         }
     }
 
-    // Whether the package, which has this place, is visible.
-    fn is_visible(&self, place: u32, pkg: &Pkg) -> bool
+    /// Whether the package, which has this place, is visible.
+    pub fn is_visible(&self, place: u32, pkg: &Pkg) -> bool
         requires test { AnswersVisible (F.pre (test_of self.now)) (F.post (test_of self.now)) (profile_of self.now) (level_of self.now) }
         requires place { slice_get (pkgs_of self.now) place ≡ Some pkg.now }
         ensures { result ≡ visible pkg.now (profile_of self.now) (level_of self.now) }
