@@ -6,13 +6,13 @@ use Rattle.gv_entry.specs.declared.entry.Body.{Body}
 use Rattle.gv_expr.specs.Dep.{Dep}
 use Rattle.gv_facts.specs.declared.kinds.Class.{Class}
 use Rattle.gv_facts.specs.declared.kinds.Class.TheVariants.{Required, Depend, Bdepend, Rdepend, Pdepend, Idepend}
+use Rattle.gv_facts.specs.declared.kinds.Level.{Level}
 use Rattle.gv_facts.specs.declared.pkg.Pkg.{Pkg}
 use Rattle.gv_facts.specs.declared.profile.Profile.{Profile}
 use Rattle.gv_lower.specs.Around.{alone}
 use Rattle.gv_lower.specs.Keys.{class_key, required_key}
 use Rattle.gv_lower.specs.Sites.{ClassSites, RequiredFlags}
 use Rattle.gv_usestate.specs.Kinds.{IsOneOf}
-use Rattle.gv_visible.specs.Candidates.{VisiblePkgs}
 use Rattle.gv_checks.specs.Context.{case_of}
 use Rattle.gv_checks.specs.Alike.{first_at}
 use Rattle.gv_checks.specs.Keys.{ArePartsOf, AreSitesOf, HasSites, flags_in, own_sites, sites_at, sites_in}
@@ -73,7 +73,7 @@ sites_made : (profiles : List Profile) (p : Pkg) (pkgs : List Pkg) (body : Body)
 sites_made profiles p pkgs body s are class =
     own_made profiles p pkgs body s are (first_at s.firsts class) class refl ∙ ap (option_map (sites_in profiles p pkgs)) (are.firsts class)
 
-module _ (j : JudgedPkg) (view : VisiblePkgs) (s : PkgSites) (required : List ℕ) (parts : ArePartsOf j view s required) (class : Class) where
+module _ (j : JudgedPkg) (states : Profile) (s : PkgSites) (required : List ℕ) (parts : ArePartsOf j states s required) (class : Class) where
   has : HasSites j s
   has = parts.sites_are
 
@@ -89,19 +89,21 @@ module _ (j : JudgedPkg) (view : VisiblePkgs) (s : PkgSites) (required : List �
     it : (d : List Dep) × ((class_in j.body.now class ≡ Some d) × (x ≡ sites_in has.profiles j.pkg.now j.pkgs.now d))
     it = made (sites_in has.profiles j.pkg.now j.pkgs.now) (class_in j.body.now class) x (some ∙ at_class)
 
-    pub sites_among : x.pkgs ≡ view.pkgs
-    sites_among = ap (λ (c : ClassSites). c.pkgs) it.1.1 ∙ sym (ap (λ (v : VisiblePkgs). v.pkgs) parts.view_is)
+    pub sites_among : (among : List Pkg) → among ≡ j.pkgs.now → x.pkgs ≡ among
+    sites_among among same = ap (λ (c : ClassSites). c.pkgs) it.1.1 ∙ sym same
 
-    pub sites_one : (profile : Profile) → profile ≡ view.profile → IsOneOf x.profiles profile
-    sites_one profile at =
-        subst (λ (c : ClassSites). IsOneOf c.profiles profile) (sym it.1.1) (subst (IsOneOf has.profiles) (sym (at ∙ ap (λ (v : VisiblePkgs). v.profile) parts.view_is)) has.one)
+    pub sites_one : IsOneOf x.profiles states
+    sites_one = subst (λ (c : ClassSites). IsOneOf c.profiles states) (sym it.1.1) (subst (IsOneOf has.profiles) (sym parts.states_are) has.one)
 
     pub key_some : (old mid new : List ℕ) → mid ≡ old ++ required
-        → (v : VisiblePkgs) → v ≡ view → new ≡ mid ++ class_key (record { pkg = x.of; profile = v.profile; level = j.level; among = v.pkgs }) x.class → new ≡ old ++ key_of (query_of (case_of j) class)
-    key_some old mid new front v is more =
+        → (profile : Profile) (level : Level) (among : List Pkg) → profile ≡ j.profile.now → level ≡ j.level → among ≡ j.pkgs.now
+        → new ≡ mid ++ class_key (record { pkg = x.of; profile = profile; level = level; among = among }) x.class → new ≡ old ++ key_of (query_of (case_of j) class)
+    key_some old mid new front profile level among in_profile at_level same more =
         more
-        ∙ (ap (λ (c : ClassSites). mid ++ class_key (record { pkg = c.of; profile = v.profile; level = j.level; among = v.pkgs }) c.class) it.1.1
-        ∙ (ap (λ (w : VisiblePkgs). mid ++ class_key (record { pkg = j.pkg.now; profile = w.profile; level = j.level; among = w.pkgs }) it.0) (is ∙ parts.view_is)
+        ∙ (ap (λ (c : ClassSites). mid ++ class_key (record { pkg = c.of; profile = profile; level = level; among = among }) c.class) it.1.1
+        ∙ (ap (λ p. mid ++ class_key (record { pkg = j.pkg.now; profile = p; level = level; among = among }) it.0) in_profile
+        ∙ (ap (λ l. mid ++ class_key (record { pkg = j.pkg.now; profile = j.profile.now; level = l; among = among }) it.0) at_level
+        ∙ (ap (λ ps. mid ++ class_key (record { pkg = j.pkg.now; profile = j.profile.now; level = j.level; among = ps }) it.0) same
         ∙ (ap (λ m. m ++ class_key (case_of j).parent it.0) (front ∙ ap (λ ks. old ++ ks) parts.required_is)
         ∙ (append_assoc old (required_key (case_of j).parent (unwrap_or j.body.now.required [])) (class_key (case_of j).parent it.0)
-        ∙ sym (ap (λ d. old ++ asked_key (case_of j).parent (unwrap_or j.body.now.required []) d) it.1.0)))))
+        ∙ sym (ap (λ d. old ++ asked_key (case_of j).parent (unwrap_or j.body.now.required []) d) it.1.0)))))))

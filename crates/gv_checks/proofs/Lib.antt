@@ -15,6 +15,8 @@ pub mod SharedLemmas
 pub mod OneLemmas
 pub mod KeyLemmas
 pub mod ViewLemmas
+pub mod MentionedLemmas
+pub mod MarkLemmas
 pub mod TouchedLemmas
 pub mod StaleLemmas
 pub mod DueLemmas

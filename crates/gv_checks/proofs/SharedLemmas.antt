@@ -11,6 +11,7 @@ use Rattle.gv_expr.specs.Dep.{Dep}
 use Rattle.gv_expr.specs.Required.{Req}
 use Rattle.gv_facts.specs.declared.kinds.Class.{Class}
 use Rattle.gv_facts.specs.declared.pkg.Pkg.{Pkg}
+use Rattle.gv_facts.specs.declared.profile.Profile.{Profile}
 use Rattle.gv_logic.specs.Bytes.{circuit_bytes}
 use Rattle.gv_lower.specs.Keys.{HaveSameAllowed, HaveSameFailing, query_key, required_key}
 use Rattle.gv_lower.specs.Lowering.{IsQuery}
@@ -27,7 +28,6 @@ use Rattle.gv_checks.specs.Shared.{AreHere, AreKept, AreNoted, ArePlaced, AreRea
 use Rattle.gv_checks.specs.declared.context.JudgedPkg.{JudgedPkg}
 use Rattle.gv_checks.specs.declared.keys.PkgSites.{PkgSites}
 use Rattle.gv_checks.specs.declared.shared.Placed.{Placed}
-use Rattle.gv_visible.specs.Candidates.{VisiblePkgs}
 use Rattle.gv_checks.specs.declared.shared.Shared.{Shared}
 use Rattle.gv_checks.specs.declared.shared.SharedQuery.{SharedQuery}
 
@@ -220,8 +220,8 @@ pub ended : (j : JudgedPkg) (certs : List KnownRecord) (s : Shared) → AreReady
 ended j certs s ready = record { shared = ready.here.shared; noted = ready.noted }
 
 -- One more class in a context.
-pub first_same : (j : JudgedPkg) (view : VisiblePkgs) (s : PkgSites) (required : List ℕ) → ArePartsOf j view s required → (class first : Class) → first ≡ first_at s.firsts class → class_in j.body.now first ≡ class_in j.body.now class
-first_same j view s required parts class first is = ap (class_in j.body.now) is ∙ parts.sites_are.are.firsts class
+pub first_same : (j : JudgedPkg) (states : Profile) (s : PkgSites) (required : List ℕ) → ArePartsOf j states s required → (class first : Class) → first ≡ first_at s.firsts class → class_in j.body.now first ≡ class_in j.body.now class
+first_same j states s required parts class first is = ap (class_in j.body.now) is ∙ parts.sites_are.are.firsts class
 
 pub here_more : (j : JudgedPkg) (old new : Shared) (class first : Class) (n : ℕ) → new.queries.items ≡ old.queries.items → new.here.items ≡ old.here.items ++ record { class = first; at = n } ∷ []
     → class_in j.body.now first ≡ class_in j.body.now class → IsSharedAt (query_of (case_of j) class) old.queries.items n → AreHere j old → AreHere j new

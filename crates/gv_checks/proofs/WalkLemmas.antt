@@ -81,26 +81,26 @@ class_end o c classes i b given p0 p1 n0 n1 u le walk = walk_end b given (these 
     these : List Class → List Query
     these cs = map (query_of c) (filter (is_asked o c) cs)
 
--- profiles
-module _ (o : Options) (repo : Repo) (m : Member) (profiles : List Profile) where
+-- profiles, of each of which something is asked
+module _ (ask : Case → List Query) (repo : Repo) (m : Member) (profiles : List Profile) where
   abbrev queries_in : List Profile → List Query
-  queries_in ps = flat_map (case_queries o) (filter_map (case_in repo.pkgs m) ps)
+  queries_in ps = flat_map ask (filter_map (case_in repo.pkgs m) ps)
 
   module _ (profile : Profile) (i : ℕ) (lt : i < length profiles) (here : profile ≡ get_or profiles i profile) where
-    judged_here : (level : Level) → judged m.pkg profile ≡ Some level → queries_in (drop i profiles) ≡ case_queries o (case_at repo.pkgs m profile level) ++ queries_in (drop (i + 1) profiles)
+    judged_here : (level : Level) → judged m.pkg profile ≡ Some level → queries_in (drop i profiles) ≡ ask (case_at repo.pkgs m profile level) ++ queries_in (drop (i + 1) profiles)
     judged_here level e = ap queries_in (drop_here profiles profile i lt here) ∙ (rw e refl)
 
     unjudged_here : judged m.pkg profile ≡ None → queries_in (drop i profiles) ≡ queries_in (drop (i + 1) profiles)
     unjudged_here e = ap queries_in (drop_here profiles profile i lt here) ∙ (rw e refl)
 
     module _ (b : ℕ) (given : List KnownRecord) (p0 p1 p2 : Progress) (n0 n1 n2 : Counts) (walk : IsWalk b given (queries_in (drop i profiles)) (queries_in profiles) p0 p1 n0 n1) where
-      pub profile_next : (level : Level) → judged m.pkg profile ≡ Some level → (u : Unit {0}) → Judges b given (case_queries o (case_at repo.pkgs m profile level)) p1 p2 n1 n2 (Ok u)
+      pub profile_next : (level : Level) → judged m.pkg profile ≡ Some level → (u : Unit {0}) → Judges b given (ask (case_at repo.pkgs m profile level)) p1 p2 n1 n2 (Ok u)
           → (b ≡ 0 → n2.solve ≡ n1.solve) → IsWalk b given (queries_in (drop (i + 1) profiles)) (queries_in profiles) p0 p2 n0 n2
-      profile_next level e u j unsolved = walk_next b given (queries_in profiles) p0 p1 p2 n0 n1 n2 (queries_in (drop i profiles)) (case_queries o (case_at repo.pkgs m profile level)) (queries_in (drop (i + 1) profiles)) (judged_here level e) walk u j unsolved
+      profile_next level e u j unsolved = walk_next b given (queries_in profiles) p0 p1 p2 n0 n1 n2 (queries_in (drop i profiles)) (ask (case_at repo.pkgs m profile level)) (queries_in (drop (i + 1) profiles)) (judged_here level e) walk u j unsolved
 
-      pub profile_err : (level : Level) → judged m.pkg profile ≡ Some level → (f : JudgeFault) → Judges b given (case_queries o (case_at repo.pkgs m profile level)) p1 p2 n1 n2 (Err f)
+      pub profile_err : (level : Level) → judged m.pkg profile ≡ Some level → (f : JudgeFault) → Judges b given (ask (case_at repo.pkgs m profile level)) p1 p2 n1 n2 (Err f)
           → Judges b given (queries_in profiles) p0 p2 n0 n2 (Err f)
-      profile_err level e f j = walk_err b given (queries_in profiles) p0 p1 p2 n0 n1 n2 (queries_in (drop i profiles)) (case_queries o (case_at repo.pkgs m profile level)) (queries_in (drop (i + 1) profiles)) f (judged_here level e) walk j
+      profile_err level e f j = walk_err b given (queries_in profiles) p0 p1 p2 n0 n1 n2 (queries_in (drop i profiles)) (ask (case_at repo.pkgs m profile level)) (queries_in (drop (i + 1) profiles)) f (judged_here level e) walk j
 
       pub profile_passed : judged m.pkg profile ≡ None → IsWalk b given (queries_in (drop (i + 1) profiles)) (queries_in profiles) p0 p1 n0 n1
       profile_passed e = subst (λ l. IsWalk b given l (queries_in profiles) p0 p1 n0 n1) (unjudged_here e) walk
@@ -108,6 +108,25 @@ module _ (o : Options) (repo : Repo) (m : Member) (profiles : List Profile) wher
   pub profile_end : (i : ℕ) (b : ℕ) (given : List KnownRecord) (p0 p1 : Progress) (n0 n1 : Counts) (u : Unit {0}) → length profiles ≤ i
       → IsWalk b given (queries_in (drop i profiles)) (queries_in profiles) p0 p1 n0 n1 → Judges b given (queries_in profiles) p0 p1 n0 n1 (Ok u)
   profile_end i b given p0 p1 n0 n1 u le walk = walk_end b given (queries_in profiles) (queries_in (drop i profiles)) p0 p1 n0 n1 u (ap queries_in (drop_of_length-le profiles le)) walk
+
+-- whatever items
+module _ {A : Type 0} (f : A → List Query) (xs : List A) (i : ℕ) (b : ℕ) (given : List KnownRecord) where
+  module _ (x : A) (lt : i < length xs) (here : x ≡ get_or xs i x) (p0 p1 p2 : Progress) (n0 n1 n2 : Counts) (walk : IsWalk b given (flat_map f (drop i xs)) (flat_map f xs) p0 p1 n0 n1) where
+    item_here : flat_map f (drop i xs) ≡ f x ++ flat_map f (drop (i + 1) xs)
+    item_here = ap (flat_map f) (drop_here xs x i lt here)
+
+    pub item_next : (u : Unit {0}) → Judges b given (f x) p1 p2 n1 n2 (Ok u) → (b ≡ 0 → n2.solve ≡ n1.solve) → IsWalk b given (flat_map f (drop (i + 1) xs)) (flat_map f xs) p0 p2 n0 n2
+    item_next u j unsolved = walk_next b given (flat_map f xs) p0 p1 p2 n0 n1 n2 (flat_map f (drop i xs)) (f x) (flat_map f (drop (i + 1) xs)) item_here walk u j unsolved
+
+    pub item_err : (fault : JudgeFault) → Judges b given (f x) p1 p2 n1 n2 (Err fault) → Judges b given (flat_map f xs) p0 p2 n0 n2 (Err fault)
+    item_err fault j = walk_err b given (flat_map f xs) p0 p1 p2 n0 n1 n2 (flat_map f (drop i xs)) (f x) (flat_map f (drop (i + 1) xs)) fault item_here walk j
+
+  pub item_end : (p0 p1 : Progress) (n0 n1 : Counts) (u : Unit {0}) → length xs ≤ i → IsWalk b given (flat_map f (drop i xs)) (flat_map f xs) p0 p1 n0 n1 → Judges b given (flat_map f xs) p0 p1 n0 n1 (Ok u)
+  item_end p0 p1 n0 n1 u le walk = walk_end b given (flat_map f xs) (flat_map f (drop i xs)) p0 p1 n0 n1 u (ap (flat_map f) (drop_of_length-le xs le)) walk
+
+-- no query
+pub none_judged : (b : ℕ) (given : List KnownRecord) (p : Progress) (n : Counts) (u : Unit {0}) → Judges b given [] p p n n (Ok u)
+none_judged b given p n u = λ start done at. subst (λ l. IsAt b given start l p n) (sym (append-nil done)) at
 
 -- where they are those that are shown
 pub record IsSeenAt (pkgs : List Pkg) (profiles : List Profile) (i : ℕ) (x : VisiblePkgs) : Type 0 where

@@ -10,10 +10,8 @@ use Rattle.gv_facts.specs.declared.profile.Profile.{Profile}
 use Rattle.gv_lower.specs.Keys.{required_key}
 use Rattle.gv_lower.specs.Sites.{ClassSites, RequiredFlags}
 use Rattle.gv_usestate.specs.Kinds.{IsOneOf}
-use Rattle.gv_visible.specs.Candidates.{VisiblePkgs}
 use Rattle.gv_checks.specs.Alike.{AreFirsts, first_at}
 use Rattle.gv_checks.specs.Context.{case_of}
-use Rattle.gv_checks.specs.Walks.{seen}
 use Rattle.gv_checks.specs.declared.context.JudgedPkg.{JudgedPkg}
 use Rattle.gv_checks.specs.declared.keys.PkgSites.{PkgSites}
 
@@ -51,8 +49,8 @@ pub record HasSites (j : JudgedPkg) (s : PkgSites) : Type 0 where
   pub one : IsOneOf profiles j.profile.now
   pub are : AreSitesOf profiles j.pkg.now j.pkgs.now j.body.now s
 
--- in a context: what its profile shows and says of flags, the sites of the package, and the key of its REQUIRED_USE
-pub record ArePartsOf (j : JudgedPkg) (view : VisiblePkgs) (s : PkgSites) (required : List ℕ) : Type 0 where
-  pub view_is : view ≡ seen j.pkgs.now j.profile.now
+-- in a context: the states of flags in its profile, the sites of the package, and the key of its REQUIRED_USE
+pub record ArePartsOf (j : JudgedPkg) (states : Profile) (s : PkgSites) (required : List ℕ) : Type 0 where
+  pub states_are : states ≡ j.profile.now
   pub sites_are : HasSites j s
   pub required_is : required ≡ required_key (case_of j).parent (unwrap_or j.body.now.required [])

@@ -8,6 +8,7 @@ pub mod Context
 pub mod Due
 pub mod Keys
 pub mod Limits
+pub mod Mentioned
 pub mod Named
 pub mod Plain
 pub mod Progress
@@ -18,4 +19,5 @@ pub mod RepoReports
 pub mod Shared
 pub mod Touched
 pub mod Unmet
+pub mod Views
 pub mod Walks

@@ -59,9 +59,13 @@ is_selected options c class = is_told options c (query_keyword c.parent.profile.
 abbrev pub is_asked : Options → Case → Class → Bool
 is_asked options c class = has_query c class && is_selected options c class
 
+-- of these classes
+abbrev pub class_queries : Options → List Class → Case → List Query
+class_queries options ks c = map (query_of c) (filter (is_asked options c) ks)
+
 -- REQUIRED_USE, then the classes
 abbrev pub case_queries : Options → Case → List Query
-case_queries options c = map (query_of c) (filter (is_asked options c) classes)
+case_queries options c = class_queries options classes c
 
 -- the same without options
 abbrev pub case_queries_all : Case → List Query

@@ -1,44 +1,52 @@
 //! Queries that are answered anew.
 //!
-//! A package that mentions no edited name, and isn't edited, costs O(1). Another one is asked about in each profile, and each
-//! query of it that is due costs what `ask_among` says.
-ghost use Rattle.std.specs.Prelude.{◌≡◌, ◌∷◌, [], true, flat_map};
+//! A package on which nothing rests costs O(1); another one what `walking` says of a package with these classes.
+ghost use Rattle.std.specs.Prelude.{◌≡◌, filter, flat_map, map, IfOk};
 ghost use Rattle.std.specs.List.{AllByRecursion};
-ghost use Rattle.gv_checks.specs.Context.{IsNumbered, case_of};
-ghost use Rattle.gv_checks.specs.Due.{Answers, due_class, due_pkg, due_profile};
-ghost use Rattle.gv_checks.specs.Queries.{has_query, query_of};
+ghost use Rattle.gv_checks.specs.Due.{due_classes, due_pkg, is_due_in};
+ghost use Rattle.gv_checks.specs.Progress.{IsSomewhere, Judges};
 ghost use Rattle.gv_checks.specs.Touched.{IsIn};
+ghost use Rattle.gv_checks.specs.Walks.{seen};
 
 use crate::JudgeFault;
 use crate::classes::classes;
-use crate::context::JudgedPkg;
-use crate::judging::{add_report, is_asked};
-use crate::one::answer_case;
+use crate::judging::Progress;
 use crate::touched::Touched;
-use gv_base::{Ledger, Steps};
+use crate::views::ProfileView;
+use crate::walking::judge_pkg;
+use gv_base::{Ledger, NoMemory, Steps};
 use gv_cert::Known;
-use gv_facts::{Class, Profile};
+use gv_facts::Class;
 use gv_load::Repo;
-use gv_report::{Options, Reports};
-use gv_visible::{PkgIndex, judged};
+use gv_report::Options;
+use gv_usestate::RuledFlags;
+use gv_visible::PkgIndex;
 use std::alloc::Global;
 
-/// Answers the queries of these packages that are due, in their order, and adds their reports.
-pub(crate) fn answer_due<'a, L: Ledger>(
+/// Judges the queries of these packages that are due, in their order. The views are those of the profiles.
+pub(crate) fn judge_due<L: Ledger>(
     alloc: Global,
-    repo: &'a Repo,
-    index: &'a PkgIndex<'a>,
+    repo: &Repo,
+    index: &PkgIndex<'_>,
+    ruled: &RuledFlags<'_>,
+    views: &[ProfileView<'_>],
     options: &Options,
-    touched: &'a [Touched<'a>],
-    reports: &mut Reports,
+    touched: &[Touched<'_>],
+    given: &Known,
+    progress: &mut Progress,
     steps: &mut Steps<L>,
 ) -> Result<(), JudgeFault>
     requires index { index.now ≡ repo.now.pkgs }
+    requires ruled { ruled.now ≡ repo.now.profiles }
+    requires views { views.now ≡ map (seen repo.now.pkgs) repo.now.profiles }
     requires touched { AllByRecursion (IsIn repo.now.pkgs) touched.now }
-    ensures { Answers options.now.budget (flat_map (due_pkg options.now repo.now) touched.now) reports.old reports.new steps.old steps.new result }
+    requires somewhere { IsSomewhere options.now.budget given.now progress.old steps.old }
+    ensures { Judges options.now.budget given.now (flat_map (due_pkg options.now repo.now) touched.now) progress.old progress.new steps.old steps.new result }
 {
     for one in touched {
-        match answer_pkg(alloc, repo, index, options, one, reports, steps) {
+        match judge_touched(
+            alloc, repo, &*index, &*ruled, views, options, one, given, progress, steps,
+        ) {
             Ok(()) => {}
             Err(fault) => return Err(fault),
         }
@@ -46,155 +54,64 @@ pub(crate) fn answer_due<'a, L: Ledger>(
     Ok(())
 }
 
-// The query of a class, if it is due.
-fn answer_class<'a, L: Ledger>(
-    alloc: Global,
-    index: &'a PkgIndex<'a>,
-    options: &Options,
-    one: &Touched<'_>,
-    judged: &JudgedPkg<'a>,
-    class: Class,
-    reports: &mut Reports,
-    steps: &mut Steps<L>,
-) -> Result<(), JudgeFault>
-    requires index { index.now ≡ judged.now.pkgs.now }
-    requires numbered { IsNumbered judged.now }
-    ensures { Answers options.now.budget (due_class options.now one.now (case_of judged.now) class) reports.old reports.new steps.old steps.new result }
+// The classes of a package that are due, in their order.
+fn due_classes(alloc: Global, one: &Touched<'_>) -> Result<Vec<Class>, NoMemory>
+    ensures { IfOk result (λ due. due.items ≡ due_classes one.now) }
 {
-    if is_asked(options, judged, class) && (one.edited || one.mentions(class)) {
-        return answer_one(alloc, index, options, judged, class, reports, steps);
-    }
-    Ok(())
+    due_among(alloc, one, &classes())
 }
 
-// A query, without a record.
-fn answer_one<'a, L: Ledger>(
-    alloc: Global,
-    index: &'a PkgIndex<'a>,
-    options: &Options,
-    judged: &JudgedPkg<'a>,
-    class: Class,
-    reports: &mut Reports,
-    steps: &mut Steps<L>,
-) -> Result<(), JudgeFault>
-    requires index { index.now ≡ judged.now.pkgs.now }
-    requires numbered { IsNumbered judged.now }
-    requires has { has_query (case_of judged.now) class ≡ true }
-    ensures { Answers options.now.budget (query_of (case_of judged.now) class ∷ []) reports.old reports.new steps.old steps.new result }
+fn due_among(alloc: Global, one: &Touched<'_>, classes: &[Class]) -> Result<Vec<Class>, NoMemory>
+    ensures { IfOk result (λ due. due.items ≡ filter (is_due_in one.now) classes.now) }
 {
-    let none = Known::new(alloc);
-    let found = match answer_case(alloc, index, judged, class, options, &none, steps) {
-        Ok(found) => found,
-        Err(fault) => return Err(fault),
-    };
-    add_report(reports, found.report)?;
-    Ok(())
-}
-
-// The queries of a package in a context, of these classes.
-fn answer_classes<'a, L: Ledger>(
-    alloc: Global,
-    index: &'a PkgIndex<'a>,
-    options: &Options,
-    one: &Touched<'_>,
-    judged: &JudgedPkg<'a>,
-    classes: &[Class],
-    reports: &mut Reports,
-    steps: &mut Steps<L>,
-) -> Result<(), JudgeFault>
-    requires index { index.now ≡ judged.now.pkgs.now }
-    requires numbered { IsNumbered judged.now }
-    ensures { Answers options.now.budget (flat_map (due_class options.now one.now (case_of judged.now)) classes.now) reports.old reports.new steps.old steps.new result }
-{
+    let mut due = Vec::new(alloc);
     for class in classes {
-        match answer_class(alloc, index, options, one, judged, *class, reports, steps) {
-            Ok(()) => {}
-            Err(fault) => return Err(fault),
+        if one.edited || one.mentions(*class) {
+            due.push(*class)?;
         }
     }
-    Ok(())
+    Ok(due)
 }
 
-// The queries of a package in a profile, if it judges the package.
-#[tactic(auto, using(crate::proofs::DueLemmas::unjudged_due, crate::proofs::DueLemmas::judged_due, crate::proofs::DueLemmas::none_answered, crate::proofs::DueLemmas::answered_as))]
-fn answer_profile<'a, L: Ledger>(
+// Judges the queries of a package that are due.
+fn judge_touched<'a, L: Ledger>(
     alloc: Global,
-    repo: &'a Repo,
+    repo: &Repo,
     index: &'a PkgIndex<'a>,
+    ruled: &'a RuledFlags<'a>,
+    views: &[ProfileView<'_>],
     options: &Options,
     one: &'a Touched<'a>,
-    profile: &'a Profile,
-    reports: &mut Reports,
+    given: &Known,
+    progress: &mut Progress,
     steps: &mut Steps<L>,
 ) -> Result<(), JudgeFault>
     requires index { index.now ≡ repo.now.pkgs }
+    requires ruled { ruled.now ≡ repo.now.profiles }
+    requires views { views.now ≡ map (seen repo.now.pkgs) repo.now.profiles }
     requires numbered { IsIn repo.now.pkgs one.now }
-    ensures { Answers options.now.budget (due_profile options.now repo.now one.now profile.now) reports.old reports.new steps.old steps.new result }
-{
-    let Some(level) = judged(one.pkg, profile) else {
-        return Ok(());
-    };
-    let judged = JudgedPkg {
-        number: one.number,
-        pkg: one.pkg,
-        body: one.body,
-        profile,
-        level,
-        pkgs: &repo.pkgs,
-    };
-    answer_classes(
-        alloc,
-        index,
-        options,
-        one,
-        &judged,
-        &classes(),
-        reports,
-        steps,
-    )
-}
-
-// The queries of a package in these profiles.
-fn answer_profiles<'a, L: Ledger>(
-    alloc: Global,
-    repo: &'a Repo,
-    index: &'a PkgIndex<'a>,
-    options: &Options,
-    one: &'a Touched<'a>,
-    profiles: &'a [Profile],
-    reports: &mut Reports,
-    steps: &mut Steps<L>,
-) -> Result<(), JudgeFault>
-    requires index { index.now ≡ repo.now.pkgs }
-    requires numbered { IsIn repo.now.pkgs one.now }
-    ensures { Answers options.now.budget (flat_map (due_profile options.now repo.now one.now) profiles.now) reports.old reports.new steps.old steps.new result }
-{
-    for profile in profiles {
-        match answer_profile(alloc, repo, index, options, one, profile, reports, steps) {
-            Ok(()) => {}
-            Err(fault) => return Err(fault),
-        }
-    }
-    Ok(())
-}
-
-// The queries of a package.
-fn answer_pkg<'a, L: Ledger>(
-    alloc: Global,
-    repo: &'a Repo,
-    index: &'a PkgIndex<'a>,
-    options: &Options,
-    one: &'a Touched<'a>,
-    reports: &mut Reports,
-    steps: &mut Steps<L>,
-) -> Result<(), JudgeFault>
-    requires index { index.now ≡ repo.now.pkgs }
-    requires numbered { IsIn repo.now.pkgs one.now }
-    ensures { Answers options.now.budget (due_pkg options.now repo.now one.now) reports.old reports.new steps.old steps.new result }
+    requires somewhere { IsSomewhere options.now.budget given.now progress.old steps.old }
+    ensures judges { Judges options.now.budget given.now (due_pkg options.now repo.now one.now) progress.old progress.new steps.old steps.new result }
+    ensures unsolved { options.now.budget ≡ 0 → steps.new.solve ≡ steps.old.solve }
 {
     if one.touches() {
-        let profiles = repo.profiles.items();
-        return answer_profiles(alloc, repo, index, options, one, profiles, reports, steps);
+        let due = due_classes(alloc, one)?;
+        return judge_pkg(
+            alloc,
+            repo,
+            index,
+            ruled,
+            views,
+            one.number,
+            one.pkg,
+            one.body,
+            &due,
+            options,
+            options.budget,
+            given,
+            progress,
+            steps,
+        );
     }
     Ok(())
 }

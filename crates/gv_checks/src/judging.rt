@@ -21,13 +21,13 @@ use crate::lowering::lower_query;
 use crate::reporting::report_of;
 use crate::shared::{Shared, SharedQuery};
 use crate::used::{AskFault, Used};
-use crate::views::ProfileView;
 use crate::{JudgeFault, QueryName, QueryNames};
 use gv_base::{Ledger, NoMemory, Steps, Text};
 use gv_cert::Known;
 use gv_facts::{Class, Context, Pkg, has_class};
 use gv_lower::{LowerFault, Query};
 use gv_report::{Keyword, Options, Report, Reports};
+use gv_usestate::ProfileStates;
 use gv_visible::Candidates;
 use std::alloc::Global;
 
@@ -89,7 +89,7 @@ pub(crate) fn judge_query<F: Fn(&Pkg) -> bool, L: Ledger>(
     candidates: &Candidates<'_, F>,
     judged: &JudgedPkg<'_>,
     class: Class,
-    view: &ProfileView<'_>,
+    states: &ProfileStates<'_>,
     sites: &PkgSites<'_>,
     required: &[u8],
     budget: u32,
@@ -99,7 +99,7 @@ pub(crate) fn judge_query<F: Fn(&Pkg) -> bool, L: Ledger>(
     steps: &mut Steps<L>,
 ) -> Result<(), JudgeFault>
     requires around { AreAround (F.pre (test_of candidates.now)) (F.post (test_of candidates.now)) candidates.now judged.now }
-    requires parts { ArePartsOf judged.now view.now sites.now required.now }
+    requires parts { ArePartsOf judged.now states.now sites.now required.now }
     requires has { has_query (case_of judged.now) class ≡ true }
     requires shared { AreReady judged.now progress.old.used.certs shared.old }
     requires most { budget ≤ 1000000 }
@@ -109,7 +109,7 @@ pub(crate) fn judge_query<F: Fn(&Pkg) -> bool, L: Ledger>(
     ensures shared { OnOk result (AreReady judged.now progress.new.used.certs shared.new) }
 {
     let at = match shared.place(
-        alloc, candidates, judged, class, view, sites, required, steps,
+        alloc, candidates, judged, class, states, sites, required, steps,
     ) {
         Ok(at) => at,
         Err(fault) => return Err(fault),

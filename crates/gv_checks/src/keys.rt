@@ -5,22 +5,22 @@
 ghost use Rattle.std.specs.Prelude.{◌≡◌, true, ◌++◌, [], option_map, unwrap_or, IfOk, OnOk};
 ghost use Rattle.std.specs.Option.{option_copied};
 ghost use Rattle.gv_lower.specs.Keys.{required_key};
+ghost use Rattle.gv_visible.specs.Candidates.{test_of};
 ghost use Rattle.gv_checks.specs.Alike.{first_at};
-ghost use Rattle.gv_checks.specs.Context.{case_of};
+ghost use Rattle.gv_checks.specs.Context.{AreAround, case_of};
 ghost use Rattle.gv_checks.specs.Keys.{ArePartsOf, AreSitesOf, HasSites, flags_in, sites_at, sites_in};
 ghost use Rattle.gv_checks.specs.Queries.{query_of};
 ghost use Rattle.gv_checks.specs.Shared.{key_of};
 
 use crate::alike::Firsts;
 use crate::context::JudgedPkg;
-use crate::views::ProfileView;
 use gv_base::NoMemory;
 use gv_entry::Body;
 use gv_expr::{DepExpr, UseExpr};
 use gv_facts::{Class, Pkg};
 use gv_lower::{ClassSites, RequiredFlags, add_class_key, add_required_key};
 use gv_usestate::{ProfileStates, RuledFlags};
-use gv_visible::PkgIndex;
+use gv_visible::{Candidates, PkgIndex};
 use std::alloc::Global;
 
 /// What the queries of a package ask about, of each class that isn't broken and is the first with its expression.
@@ -83,26 +83,24 @@ impl<'a> PkgSites<'a> {
         }
     }
 
-    /// Adds the key of the query, from the view of its profile and the key of REQUIRED_USE.
-    pub(crate) fn add_key(
+    /// Adds the key of the query, from the states of its profile and the key of REQUIRED_USE.
+    pub(crate) fn add_key<F: Fn(&Pkg) -> bool>(
         &self,
+        candidates: &Candidates<'_, F>,
         judged: &JudgedPkg<'_>,
         class: Class,
-        view: &ProfileView<'_>,
+        states: &ProfileStates<'_>,
         required: &[u8],
         key: &mut Vec<u8>,
     ) -> Result<(), NoMemory>
-        requires { ArePartsOf judged.now view.now self.now required.now }
+        requires around { AreAround (F.pre (test_of candidates.now)) (F.post (test_of candidates.now)) candidates.now judged.now }
+        requires parts { ArePartsOf judged.now states.now self.now required.now }
         ensures { OnOk result (key.new.items ≡ key.old.items ++ key_of (query_of (case_of judged.now) class)) }
     {
         key.extend_from_slice(required)?;
         match self.at(class) {
             None => Ok(()),
-            Some(sites) => {
-                let seen = view.seen();
-                let states = view.states();
-                add_class_key(sites, seen, states, judged.level, key)
-            }
+            Some(sites) => add_class_key(sites, candidates, states, key),
         }
     }
 }

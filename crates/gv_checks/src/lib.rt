@@ -13,9 +13,9 @@
 //! - `walking`, `whole`: all queries of a repository, and its reports and certificates. `recalled`: the same by records alone.
 //! - `reporting`: the report of a query. `nonexistent`, `unstated`, `plainly`: the reports that need no query.
 //! - `finding`, `one`, `known`: one query by its name, answered or looked up.
-//! - `touched`: what of each package rests on edited entries. `stale`, `afresh`, `due`: which
-//!   reports of before are stale, what is told anew without a query, and the queries that are answered anew. `renewing`: the
-//!   reports of a repository in which entries were edited, from those of before.
+//! - `mentioned`: the names that packages' classes mention, by numbers. `touched`: what of each package rests on edited entries.
+//!   `stale`, `afresh`, `due`: which reports of before are stale, what is told anew without a query, and the queries that are
+//!   answered anew. `renewing`: the reports of a repository in which entries were edited, from those of before.
 //! - `laws`: what answers mean.
 #![tactic(auto)]
 
@@ -31,6 +31,7 @@ mod keys;
 mod known;
 mod laws;
 mod lowering;
+mod mentioned;
 mod names;
 mod nonexistent;
 mod one;
@@ -50,6 +51,7 @@ mod whole;
 pub use fault::JudgeFault;
 pub use known::{known_among, known_one};
 pub use laws::{answers_law, gates_law, names_law};
+pub use mentioned::Mentioned;
 pub use names::{QueryName, QueryNames};
 pub use one::{Found1, ask_among, ask_one};
 pub use plainly::plain;

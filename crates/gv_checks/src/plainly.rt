@@ -16,7 +16,7 @@ use crate::judging::is_told;
 use crate::nonexistent::add_nonexistent;
 use crate::reporting::{context_of, subject_of};
 use crate::unstated::{OtherFlags, add_unstated, other_flags};
-use crate::views::{ProfileView, all_views};
+use crate::views::{Asked, ProfileView, all_views};
 use gv_base::NoMemory;
 use gv_entry::Body;
 use gv_facts::{Level, Pkg, Profile};
@@ -129,8 +129,8 @@ fn add_case(
     add_live(alloc, options, judged, reports)
 }
 
-/// Adds those of a package in a profile, at the level at which it judges the package, if it does.
-pub(crate) fn add_judged(
+// Adds those of a package in a profile, at the level at which it judges the package, if it does.
+fn add_judged(
     alloc: Global,
     options: &Options,
     repo: &Repo,
@@ -180,7 +180,7 @@ fn add_cases(
     ensures { OnOk result (reports.new ≡ reports.old ++ flat_map (told_case options.now) (cases_of repo.now (record { number = number; pkg = pkg.now; body = body.now }))) }
 {
     for view in views {
-        let level = view.judged(number);
+        let level = view.judged(number, pkg);
         add_judged(
             alloc,
             options,
@@ -259,7 +259,7 @@ fn plain_indexed<'a>(
     requires { index.now ≡ repo.now.pkgs }
     ensures { IfOk result (λ reports. reports ≡ filter (selected options.now) (plain_reports repo.now)) }
 {
-    let views = all_views(alloc, index, repo.profiles.items())?;
+    let views = all_views(alloc, index, repo.profiles.items(), Asked::Many)?;
     plain_among(alloc, repo, index, &views, options)
 }
 

@@ -12,7 +12,7 @@ use crate::JudgeFault;
 use crate::judging::{Progress, next_number};
 use crate::plainly::noted;
 use crate::used::Used;
-use crate::views::all_views;
+use crate::views::{Asked, all_views};
 use crate::walking::judge_all;
 use gv_base::{Ledger, NoMemory, Steps, Text};
 use gv_cert::Known;
@@ -99,7 +99,7 @@ fn recall_indexed<'a, L: Ledger>(
     ensures recalls { Recalls options.now certs.now repo.now result }
     ensures unsolved { steps.new.solve ≡ steps.old.solve }
 {
-    let views = all_views(alloc, index, repo.profiles.items())?;
+    let views = all_views(alloc, index, repo.profiles.items(), Asked::Many)?;
     let mut plain = noted(alloc, repo, options)?;
     let mut progress = Progress {
         used: Used::new(alloc),

@@ -1,9 +1,10 @@
 //! The reports of a repository in which entries were edited, from those of before.
 //!
-//! The packages are indexed once, and their atoms are gone through once. A report of before costs what `stale` says, and a
-//! package that is edited, or has an atom of the name of an edited entry, what `afresh` and `due` say; the others cost no more.
-//! Putting the reports in order costs what `ordered` does.
-ghost use Rattle.std.specs.Prelude.{◌≡◌, ◌++◌, [], filter, flat_map, length, IfErr, IfOk};
+//! The packages are indexed once, and what of each rests on edited entries is found as `touched` says. A report of before costs
+//! what `stale` says, and a package that is edited, or has an atom of the name of an edited entry, what `afresh` and `due` say; the
+//! others cost no more. What each profile shows is asked of all packages where more than one in 32 is so, and else of those that are
+//! asked about. Putting the reports in order costs what `ordered` does.
+ghost use Rattle.std.specs.Prelude.{◌≡◌, ◌++◌, [], filter, flat_map, length, map, IfErr, IfOk};
 ghost use Rattle.std.specs.List.{AllByRecursion};
 ghost use Rattle.gv_report.specs.Distinct.{ordered};
 ghost use Rattle.gv_report.specs.Selecting.{selected};
@@ -13,41 +14,52 @@ ghost use Rattle.gv_load.specs.declared.loading.Repo.{Repo};
 ghost use Rattle.gv_checks.specs.Cases.{members};
 ghost use Rattle.gv_checks.specs.Due.{AreAnswered, IsRenewedHere, due_pkg};
 ghost use Rattle.gv_checks.specs.Limits.{Refuses};
+ghost use Rattle.gv_checks.specs.Mentioned.{are_mentioned};
 ghost use Rattle.gv_checks.specs.Queries.{queries};
 ghost use Rattle.gv_checks.specs.Renewal.{AreOfBefore, IsRenewed, is_due};
 ghost use Rattle.gv_checks.specs.Touched.{AreTouched, IsIn, anew_at};
+ghost use Rattle.gv_checks.specs.Walks.{seen};
 
 use crate::JudgeFault;
 use crate::afresh::add_anew;
-use crate::due::answer_due;
+use crate::due::judge_due;
+use crate::judging::Progress;
+use crate::mentioned::Mentioned;
 use crate::plainly::noted;
 use crate::stale::lasting;
 use crate::touched::{Touched, all_touched};
+use crate::used::Used;
+use crate::views::{Asked, ProfileView, all_views};
 use gv_base::{Ledger, NoMemory, Steps};
+use gv_cert::Known;
 use gv_load::{EntryEdits, Repo};
 use gv_report::{Options, Reports, ordered, renewed_law};
+use gv_usestate::RuledFlags;
 use gv_visible::PkgIndex;
 use std::alloc::Global;
 
 /// The reports of a scan of a repository in which the entries at these paths were edited, and nothing else, from those of a scan
-/// of before. Its notes need to hold only what is told of edited entries. Only queries of packages that are edited, or of
-/// classes with an atom of the name of an edited entry, are lowered and solved, each once; the first that is refused ends it, and it is
-/// the first of all that is refused. Packages are numbered by 32 bits, and more of them find no memory.
+/// of before, and from the names that its packages mention. Its notes need to hold only what is told of edited entries. Only queries
+/// of packages that are edited, or of classes with an atom of the name of an edited entry, are lowered and solved, each at most once;
+/// the first that is refused ends it, and it is the first of all that is refused. Packages are numbered by 32 bits, and more of them
+/// find no memory.
 pub fn renew<L: Ledger>(
     alloc: Global,
     repo: &Repo,
     options: &Options,
     edits: &EntryEdits,
+    mentioned: &Mentioned,
     before: Reports,
     steps: &mut Steps<L>,
 ) -> Result<Reports, JudgeFault>
     requires order { AreInPackageOrder repo.now.pkgs }
     requires bodies { length repo.now.bodies ≡ length repo.now.pkgs }
+    requires mentioned { mentioned.now ≡ are_mentioned repo.now.bodies }
     ensures renewed { (whole : Repo) → IsPartOf edits.now repo.now whole → AreOfBefore options.now edits.now whole before → IfOk result (IsRenewed options.now edits.now whole steps.old steps.new) }
     ensures cause { (whole : Repo) → IsPartOf edits.now repo.now whole → AreOfBefore options.now edits.now whole before → IfErr result (Refuses options.now.budget [] (queries options.now whole)) }
 {
     renewed_law();
-    renew_here(alloc, repo, options, edits, before, steps)
+    renew_here(alloc, repo, options, edits, mentioned, before, steps)
 }
 
 // The same in terms of the repository that is there.
@@ -56,50 +68,78 @@ fn renew_here<L: Ledger>(
     repo: &Repo,
     options: &Options,
     edits: &EntryEdits,
+    mentioned: &Mentioned,
     before: Reports,
     steps: &mut Steps<L>,
 ) -> Result<Reports, JudgeFault>
-    requires { length repo.now.bodies ≡ length repo.now.pkgs }
+    requires bodies { length repo.now.bodies ≡ length repo.now.pkgs }
+    requires mentioned { mentioned.now ≡ are_mentioned repo.now.bodies }
     ensures renewed { IfOk result (IsRenewedHere options.now edits.now repo.now before steps.old steps.new) }
     ensures cause { IfErr result (Refuses options.now.budget [] (filter (is_due edits.now) (queries options.now repo.now))) }
 {
     let index = PkgIndex::new(alloc, &repo.pkgs)?;
-    renew_over(alloc, repo, &index, options, edits, before, steps)
+    let ruled = RuledFlags::new(alloc, repo.profiles.items())?;
+    renew_over(
+        alloc, repo, &index, &ruled, options, edits, mentioned, before, steps,
+    )
 }
 
 fn renew_over<L: Ledger>(
     alloc: Global,
     repo: &Repo,
     index: &PkgIndex<'_>,
+    ruled: &RuledFlags<'_>,
     options: &Options,
     edits: &EntryEdits,
+    mentioned: &Mentioned,
     before: Reports,
     steps: &mut Steps<L>,
 ) -> Result<Reports, JudgeFault>
     requires bodies { length repo.now.bodies ≡ length repo.now.pkgs }
+    requires mentioned { mentioned.now ≡ are_mentioned repo.now.bodies }
     requires index { index.now ≡ repo.now.pkgs }
+    requires ruled { ruled.now ≡ repo.now.profiles }
     ensures renewed { IfOk result (IsRenewedHere options.now edits.now repo.now before steps.old steps.new) }
     ensures cause { IfErr result (Refuses options.now.budget [] (filter (is_due edits.now) (queries options.now repo.now))) }
 {
-    renew_indexed(alloc, &*repo, &*index, options, edits, before, steps)
+    renew_indexed(
+        alloc, &*repo, &*index, ruled, options, edits, mentioned, before, steps,
+    )
 }
 
 fn renew_indexed<'a, L: Ledger>(
     alloc: Global,
     repo: &'a Repo,
     index: &'a PkgIndex<'a>,
+    ruled: &RuledFlags<'_>,
     options: &Options,
     edits: &EntryEdits,
+    mentioned: &Mentioned,
     before: Reports,
     steps: &mut Steps<L>,
 ) -> Result<Reports, JudgeFault>
     requires bodies { length repo.now.bodies ≡ length repo.now.pkgs }
+    requires mentioned { mentioned.now ≡ are_mentioned repo.now.bodies }
     requires index { index.now ≡ repo.now.pkgs }
+    requires ruled { ruled.now ≡ repo.now.profiles }
     ensures renewed { IfOk result (IsRenewedHere options.now edits.now repo.now before steps.old steps.new) }
     ensures cause { IfErr result (Refuses options.now.budget [] (filter (is_due edits.now) (queries options.now repo.now))) }
 {
-    let touched = all_touched(alloc, repo, edits)?;
-    renew_touched(alloc, repo, index, options, edits, &touched, before, steps)
+    let touched = all_touched(alloc, repo, mentioned, edits)?;
+    let views = all_views(alloc, index, repo.profiles.items(), asked(&touched))?;
+    renew_touched(
+        alloc, repo, index, ruled, &views, options, edits, &touched, before, steps,
+    )
+}
+
+// How many packages are asked about.
+fn asked(touched: &[Touched<'_>]) -> Asked {
+    let count = touched.iter().filter(|one| one.touches()).count();
+    if count > touched.len() / 32 {
+        Asked::Many
+    } else {
+        Asked::Few
+    }
 }
 
 // The reports told anew without a query.
@@ -107,36 +147,65 @@ fn anew(
     alloc: Global,
     repo: &Repo,
     index: &PkgIndex<'_>,
+    views: &[ProfileView<'_>],
     options: &Options,
     touched: &[Touched<'_>],
 ) -> Result<Reports, NoMemory>
-    requires { index.now ≡ repo.now.pkgs }
+    requires index { index.now ≡ repo.now.pkgs }
+    requires views { views.now ≡ map (seen repo.now.pkgs) repo.now.profiles }
+    requires touched { AllByRecursion (IsIn repo.now.pkgs) touched.now }
     ensures { IfOk result (λ reports. reports ≡ filter (selected options.now) repo.now.notes ++ flat_map (anew_at options.now repo.now) touched.now) }
 {
     let mut reports = noted(alloc, repo, options)?;
-    add_anew(alloc, options, repo, index, touched, &mut reports)?;
+    add_anew(alloc, options, repo, index, views, touched, &mut reports)?;
     Ok(reports)
 }
 
 // The reports of queries that are due.
-fn answered<'a, L: Ledger>(
+fn answered<L: Ledger>(
     alloc: Global,
-    repo: &'a Repo,
-    index: &'a PkgIndex<'a>,
+    repo: &Repo,
+    index: &PkgIndex<'_>,
+    ruled: &RuledFlags<'_>,
+    views: &[ProfileView<'_>],
     options: &Options,
-    touched: &'a [Touched<'a>],
+    touched: &[Touched<'_>],
     steps: &mut Steps<L>,
 ) -> Result<Reports, JudgeFault>
     requires index { index.now ≡ repo.now.pkgs }
+    requires ruled { ruled.now ≡ repo.now.profiles }
+    requires views { views.now ≡ map (seen repo.now.pkgs) repo.now.profiles }
     requires touched { AllByRecursion (IsIn repo.now.pkgs) touched.now }
-    ensures answers { IfOk result (λ reports. AreAnswered (flat_map (due_pkg options.now repo.now) touched.now) [] reports steps.old steps.new) }
+    ensures answers { IfOk result (AreAnswered (flat_map (due_pkg options.now repo.now) touched.now) steps.old steps.new) }
     ensures cause { IfErr result (Refuses options.now.budget [] (flat_map (due_pkg options.now repo.now) touched.now)) }
 {
-    let mut reports = Reports::new(alloc);
-    match answer_due(alloc, repo, index, options, touched, &mut reports, steps) {
-        Ok(()) => Ok(reports),
-        Err(fault) => Err(fault),
+    let none = Known::new(alloc);
+    let mut progress = Progress {
+        used: Used::new(alloc),
+        reports: Reports::new(alloc),
+        queries: 0,
+    };
+    match judge_due(
+        alloc,
+        repo,
+        index,
+        ruled,
+        views,
+        options,
+        touched,
+        &none,
+        &mut progress,
+        steps,
+    ) {
+        Ok(()) => {}
+        Err(fault) => return Err(fault),
     }
+    let Progress {
+        used: _,
+        reports,
+        queries: _,
+    } = progress;
+    Ok(reports)
 }
 
 // The reports that last, and those told anew, in order.
@@ -154,25 +223,29 @@ fn renewed(
 }
 
 #[tactic(auto, using(crate::proofs::RenewLemmas::due_are, crate::proofs::TouchedLemmas::pkgs_are))]
-fn renew_touched<'a, L: Ledger>(
+fn renew_touched<L: Ledger>(
     alloc: Global,
-    repo: &'a Repo,
-    index: &'a PkgIndex<'a>,
+    repo: &Repo,
+    index: &PkgIndex<'_>,
+    ruled: &RuledFlags<'_>,
+    views: &[ProfileView<'_>],
     options: &Options,
     edits: &EntryEdits,
-    touched: &'a [Touched<'a>],
+    touched: &[Touched<'_>],
     before: Reports,
     steps: &mut Steps<L>,
 ) -> Result<Reports, JudgeFault>
     requires bodies { length repo.now.bodies ≡ length repo.now.pkgs }
     requires index { index.now ≡ repo.now.pkgs }
+    requires ruled { ruled.now ≡ repo.now.profiles }
+    requires views { views.now ≡ map (seen repo.now.pkgs) repo.now.profiles }
     requires touched { AreTouched edits.now repo.now.pkgs (members repo.now) touched.now }
     ensures renewed { IfOk result (IsRenewedHere options.now edits.now repo.now before steps.old steps.new) }
     ensures cause { IfErr result (Refuses options.now.budget [] (filter (is_due edits.now) (queries options.now repo.now))) }
 {
     let kept = lasting(alloc, index, edits, touched, before)?;
-    let told = anew(alloc, repo, index, options, touched)?;
-    let answered = match answered(alloc, repo, index, options, touched, steps) {
+    let told = anew(alloc, repo, index, views, options, touched)?;
+    let answered = match answered(alloc, repo, index, ruled, views, options, touched, steps) {
         Ok(answered) => answered,
         Err(fault) => return Err(fault),
     };

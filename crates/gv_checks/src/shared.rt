@@ -22,11 +22,11 @@ use crate::JudgeFault;
 use crate::context::JudgedPkg;
 use crate::judging::lowered;
 use crate::keys::PkgSites;
-use crate::views::ProfileView;
 use gv_base::{Ledger, NoMemory, Steps, Text};
 use gv_facts::{Class, Pkg};
 use gv_logic::gate_bytes;
 use gv_lower::{Query, key_law};
+use gv_usestate::ProfileStates;
 use gv_visible::Candidates;
 use std::alloc::Global;
 
@@ -182,12 +182,12 @@ impl Shared {
         candidates: &Candidates<'_, F>,
         judged: &JudgedPkg<'_>,
         class: Class,
-        view: &ProfileView<'_>,
+        states: &ProfileStates<'_>,
         sites: &PkgSites<'_>,
         required: &[u8],
         steps: &mut Steps<L>,
     ) -> Result<usize, JudgeFault>
-        requires parts { ArePartsOf judged.now view.now sites.now required.now }
+        requires parts { ArePartsOf judged.now states.now sites.now required.now }
         requires around { AreAround (F.pre (test_of candidates.now)) (F.post (test_of candidates.now)) candidates.now judged.now }
         requires has { has_query (case_of judged.now) class ≡ true }
         requires here { AreHere judged.now self.old }
@@ -200,7 +200,7 @@ impl Shared {
         key_law();
         let first = sites.first(class);
         self.key.clear();
-        match sites.add_key(judged, class, view, required, &mut self.key) {
+        match sites.add_key(candidates, judged, class, states, required, &mut self.key) {
             Ok(()) => {}
             Err(NoMemory) => return Err(JudgeFault::NoMemory),
         }
@@ -226,12 +226,12 @@ impl Shared {
         candidates: &Candidates<'_, F>,
         judged: &JudgedPkg<'_>,
         class: Class,
-        view: &ProfileView<'_>,
+        states: &ProfileStates<'_>,
         sites: &PkgSites<'_>,
         required: &[u8],
         steps: &mut Steps<L>,
     ) -> Result<usize, JudgeFault>
-        requires parts { ArePartsOf judged.now view.now sites.now required.now }
+        requires parts { ArePartsOf judged.now states.now sites.now required.now }
         requires around { AreAround (F.pre (test_of candidates.now)) (F.post (test_of candidates.now)) candidates.now judged.now }
         requires has { has_query (case_of judged.now) class ≡ true }
         requires here { AreHere judged.now self.old }
@@ -246,7 +246,7 @@ impl Shared {
             return Ok(at);
         }
         match self.seek(
-            alloc, candidates, judged, class, view, sites, required, steps,
+            alloc, candidates, judged, class, states, sites, required, steps,
         ) {
             Ok(at) => match self.add_here(first, at) {
                 Ok(()) => Ok(at),

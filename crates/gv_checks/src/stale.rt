@@ -1,12 +1,11 @@
 //! Which reports of before are stale.
 //!
-//! A report costs a look-up of its package's path; one that rests on the atoms of a class also one of its package by hash.
+//! A report costs a look-up of its package among the edited entries; one that rests on the atoms of a class also one of its package by hash.
 ghost use Rattle.std.specs.Prelude.{◌≡◌, filter, map, IfOk};
 ghost use Rattle.std.specs.List.{list_any};
 ghost use Rattle.std.specs.Ordering.{eq_by_cmp};
 ghost use Rattle.gv_report.specs.Order.{subject_cmp};
 ghost use Rattle.gv_report.specs.declared.report.Subject.TheVariants.{Package};
-ghost use Rattle.gv_load.specs.EntryEdits.{is_edited};
 ghost use Rattle.gv_checks.specs.Renewal.{rests_on_atoms};
 ghost use Rattle.gv_checks.specs.RepoReports.{subject_of};
 ghost use Rattle.gv_checks.specs.Touched.{is_lasting_by, is_stale_among, is_stale_at, is_stale_by, is_stale_in, is_stale_place, pkg_at};
@@ -34,7 +33,7 @@ pub(crate) fn lasting(
 {
     let mut reports = Reports::new(alloc);
     for report in before.into_items() {
-        if !is_stale(alloc, index, edits, touched, &report)? {
+        if !is_stale(index, edits, touched, &report) {
             reports.add(report)?;
         }
     }
@@ -58,15 +57,6 @@ fn rests_on_atoms(keyword: Keyword) -> bool
         | Keyword::UnsatisfiableRequiredUse
         | Keyword::UnstatedIuse
         | Keyword::VisibleVcsPkg => false,
-    }
-}
-
-fn is_edited(alloc: Global, edits: &EntryEdits, subject: &Subject) -> Result<bool, NoMemory>
-    ensures { IfOk result (λ is. is ≡ is_edited edits.now subject.now) }
-{
-    match subject {
-        Subject::Place { .. } => Ok(false),
-        Subject::Package { category, pf, .. } => edits.is_edited(alloc, category, pf),
     }
 }
 
@@ -165,15 +155,14 @@ fn is_stale_in(index: &PkgIndex<'_>, touched: &[Touched<'_>], report: &Report) -
 }
 
 fn is_stale(
-    alloc: Global,
     index: &PkgIndex<'_>,
     edits: &EntryEdits,
     touched: &[Touched<'_>],
     report: &Report,
-) -> Result<bool, NoMemory>
+) -> bool
     requires { index.now ≡ map pkg_at touched.now }
-    ensures { IfOk result (λ is. is ≡ is_stale_by edits.now touched.now report.now) }
+    ensures { result ≡ is_stale_by edits.now touched.now report.now }
 {
-    let is_edited = is_edited(alloc, edits, &report.subject)?;
-    Ok(is_edited || (rests_on_atoms(report.keyword) && is_stale_in(index, touched, report)))
+    edits.is_of(&report.subject)
+        || (rests_on_atoms(report.keyword) && is_stale_in(index, touched, report))
 }

@@ -1,32 +1,46 @@
-//! What each profile shows of the packages, and its rules by flag: made once a profile.
-ghost use Rattle.std.specs.Prelude.{◌≡◌, map, Some, slice_get, IfOk};
+//! What each profile shows of the packages and says of flags.
+//!
+//! A view costs the states of flags in its profile. Where many packages are asked about, it costs besides a test of each package, and
+//! each of its answers O(1); else each answer is a test of the package that is asked about.
+ghost use Rattle.std.specs.Prelude.{◌≡◌, map, Some, slice_get, IfOk, IfSome};
 ghost use Rattle.gv_facts.specs.Visible.{judged};
-ghost use Rattle.gv_facts.specs.declared.pkg.Pkg.{Pkg};
+ghost use Rattle.gv_visible.specs.Candidates.{level_of, pkgs_of, profile_of, test_of};
+ghost use Rattle.gv_visible.specs.StoredTest.{AnswersVisible};
 ghost use Rattle.gv_checks.specs.Walks.{seen};
 
 use gv_base::NoMemory;
-use gv_facts::{Level, Profile};
+use gv_facts::{Level, Pkg, Profile};
 use gv_usestate::ProfileStates;
-use gv_visible::{PkgIndex, VisiblePkgs};
+use gv_visible::{Candidates, PkgIndex, VisiblePkgs, judged};
 use std::alloc::Global;
 use std::marker::Model;
 
-/// A profile with what it shows, and the states of flags in it.
+/// How many packages a view is asked about.
+#[derive(Clone, Copy)]
+pub(crate) enum Asked {
+    Few,
+    Many,
+}
+
+/// A profile with the states of flags in it and, where it is asked about many packages, what it shows of them.
 #[derive(Drop)]
 pub(crate) struct ProfileView<'a> {
-    seen: VisiblePkgs<'a>,
+    index: &'a PkgIndex<'a>,
+    profile: &'a Profile,
     states: ProfileStates<'a>,
+    shown: Option<VisiblePkgs<'a>>,
 }
 
 impl<'a> Model for ProfileView<'a> {
-    ghost use Rattle.std.specs.Prelude.{◌≡◌};
+    ghost use Rattle.gv_checks.specs.Views.{HasParts};
+    ghost use Rattle.gv_checks.specs.Walks.{seen};
     ghost use Rattle.gv_visible.specs.Candidates.{VisiblePkgs};
 
     ghost Value = { VisiblePkgs };
 
-    ghost view = { λ v. v.seen };
+    ghost view = { λ v. seen v.index.now v.profile.now };
 
-    ghost invariant = { λ v. v.states ≡ v.seen.profile };
+    ghost invariant = { λ v. HasParts v.index.now v.profile.now v.states v.shown };
 }
 
 impl<'a> ProfileView<'a> {
@@ -34,19 +48,36 @@ impl<'a> ProfileView<'a> {
         alloc: Global,
         index: &'a PkgIndex<'a>,
         profile: &'a Profile,
+        asked: Asked,
     ) -> Result<ProfileView<'a>, NoMemory>
         ensures { IfOk result (λ view. view ≡ seen index.now profile.now) }
     {
-        let seen = VisiblePkgs::new(alloc, index, profile)?;
         let states = ProfileStates::new(alloc, profile)?;
-        Ok(ProfileView { seen, states })
+        let shown = shown(alloc, index, profile, asked)?;
+        Ok(ProfileView {
+            index,
+            profile,
+            states,
+            shown,
+        })
     }
 
-    /// What it shows of the packages.
-    pub(crate) fn seen(&self) -> &VisiblePkgs<'a>
-        ensures { result.now ≡ self.now }
+    /// The packages as candidates in the profile at this level. The test answers `visible` there.
+    pub(crate) fn candidates<F: Fn(&Pkg) -> bool>(
+        &'a self,
+        level: Level,
+        test: F,
+    ) -> Candidates<'a, F>
+        requires test { AnswersVisible (F.pre test) (F.post test) self.now.profile level }
+        ensures pkgs { pkgs_of result ≡ self.now.pkgs }
+        ensures profile { profile_of result ≡ self.now.profile }
+        ensures level { level_of result ≡ level }
+        ensures test { AnswersVisible (F.pre (test_of result)) (F.post (test_of result)) (profile_of result) (level_of result) }
     {
-        &self.seen
+        match &self.shown {
+            Some(shown) => Candidates::among(shown, level, test),
+            None => Candidates::over(self.index, self.profile, level, test),
+        }
     }
 
     /// The states of flags in it.
@@ -59,14 +90,32 @@ impl<'a> ProfileView<'a> {
     pub(crate) fn profile(&self) -> &'a Profile
         ensures { result.now ≡ self.now.profile }
     {
-        self.seen.profile()
+        self.profile
     }
 
-    /// The level at which the package with this number is judged, if it is.
-    pub(crate) fn judged(&self, number: u32) -> Option<Level>
-        ensures { (pkg : Pkg) → slice_get self.now.pkgs number ≡ Some pkg → result ≡ judged pkg self.now.profile }
+    /// The level at which the package, which has this number, is judged, if it is.
+    pub(crate) fn judged(&self, number: u32, pkg: &Pkg) -> Option<Level>
+        ensures { slice_get self.now.pkgs number ≡ Some pkg.now → result ≡ judged pkg.now self.now.profile }
     {
-        self.seen.judged(number)
+        match &self.shown {
+            Some(shown) => shown.judged(number),
+            None => judged(pkg, self.profile),
+        }
+    }
+}
+
+// What the profile shows, where it is asked about many packages.
+fn shown<'a>(
+    alloc: Global,
+    index: &'a PkgIndex<'a>,
+    profile: &'a Profile,
+    asked: Asked,
+) -> Result<Option<VisiblePkgs<'a>>, NoMemory>
+    ensures { IfOk result (λ shown. IfSome shown (λ pkgs. pkgs ≡ seen index.now profile.now)) }
+{
+    match asked {
+        Asked::Few => Ok(None),
+        Asked::Many => Ok(Some(VisiblePkgs::new(alloc, index, profile)?)),
     }
 }
 
@@ -75,12 +124,13 @@ pub(crate) fn all_views<'a>(
     alloc: Global,
     index: &'a PkgIndex<'a>,
     profiles: &'a [Profile],
+    asked: Asked,
 ) -> Result<Vec<ProfileView<'a>>, NoMemory>
     ensures { IfOk result (λ views. views.items ≡ map (seen index.now) profiles.now) }
 {
     let mut views = Vec::with_capacity(alloc, profiles.len())?;
     for profile in profiles {
-        views.push(ProfileView::new(alloc, index, profile)?)?;
+        views.push(ProfileView::new(alloc, index, profile, asked)?)?;
     }
     Ok(views)
 }

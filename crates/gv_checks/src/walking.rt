@@ -13,7 +13,7 @@ ghost use Rattle.gv_checks.specs.Plain.{told_member};
 ghost use Rattle.gv_checks.specs.Shared.{AreKept, AreReady};
 ghost use Rattle.gv_checks.specs.Walks.{seen};
 ghost use Rattle.gv_checks.specs.Progress.{IsSomewhere, Judges};
-ghost use Rattle.gv_checks.specs.Queries.{case_queries, is_asked, queries, query_name, query_of};
+ghost use Rattle.gv_checks.specs.Queries.{case_queries, class_queries, queries, query_name, query_of};
 
 use crate::classes::classes;
 use crate::context::JudgedPkg;
@@ -29,7 +29,7 @@ use gv_entry::Body;
 use gv_facts::{Class, Pkg, Profile};
 use gv_load::Repo;
 use gv_report::{Options, Reports};
-use gv_usestate::RuledFlags;
+use gv_usestate::{ProfileStates, RuledFlags};
 use gv_visible::{Candidates, PkgIndex, judged, visible};
 use std::alloc::Global;
 
@@ -97,7 +97,7 @@ fn judge_classes<F: Fn(&Pkg) -> bool, L: Ledger>(
     alloc: Global,
     candidates: &Candidates<'_, F>,
     judged: &JudgedPkg<'_>,
-    view: &ProfileView<'_>,
+    states: &ProfileStates<'_>,
     sites: &PkgSites<'_>,
     required: &[u8],
     classes: &[Class],
@@ -108,20 +108,20 @@ fn judge_classes<F: Fn(&Pkg) -> bool, L: Ledger>(
     shared: &mut Shared,
     steps: &mut Steps<L>,
 ) -> Result<(), JudgeFault>
-    requires parts { ArePartsOf judged.now view.now sites.now required.now }
+    requires parts { ArePartsOf judged.now states.now sites.now required.now }
     requires around { AreAround (F.pre (test_of candidates.now)) (F.post (test_of candidates.now)) candidates.now judged.now }
     requires most { budget ≤ 1000000 }
     requires somewhere { IsSomewhere budget given.now progress.old steps.old }
     requires shared { AreReady judged.now progress.old.used.certs shared.old }
-    ensures judges { Judges budget given.now (map (query_of (case_of judged.now)) (filter (is_asked options.now (case_of judged.now)) classes.now)) progress.old progress.new steps.old steps.new result }
+    ensures judges { Judges budget given.now (class_queries options.now classes.now (case_of judged.now)) progress.old progress.new steps.old steps.new result }
     ensures unsolved { budget ≡ 0 → steps.new.solve ≡ steps.old.solve }
     ensures shared { OnOk result (AreReady judged.now progress.new.used.certs shared.new) }
 {
     for class in classes {
         if is_asked(options, judged, *class) {
             match judge_query(
-                alloc, candidates, judged, *class, view, sites, required, budget, given, progress,
-                shared, steps,
+                alloc, candidates, judged, *class, states, sites, required, budget, given,
+                progress, shared, steps,
             ) {
                 Ok(()) => {}
                 Err(fault) => return Err(fault),
@@ -136,6 +136,7 @@ fn judge_case<'a, L: Ledger>(
     view: &'a ProfileView<'a>,
     sites: &PkgSites<'_>,
     judged: &JudgedPkg<'_>,
+    classes: &[Class],
     options: &Options,
     budget: u32,
     given: &Known,
@@ -150,7 +151,7 @@ fn judge_case<'a, L: Ledger>(
     requires most { budget ≤ 1000000 }
     requires somewhere { IsSomewhere budget given.now progress.old steps.old }
     requires shared { AreKept judged.now.pkg.now judged.now.body.now progress.old.used.certs shared.old.queries.items }
-    ensures judges { Judges budget given.now (case_queries options.now (case_of judged.now)) progress.old progress.new steps.old steps.new result }
+    ensures judges { Judges budget given.now (class_queries options.now classes.now (case_of judged.now)) progress.old progress.new steps.old steps.new result }
     ensures unsolved { budget ≡ 0 → steps.new.solve ≡ steps.old.solve }
     ensures shared { OnOk result (AreKept judged.now.pkg.now judged.now.body.now progress.new.used.certs shared.new.queries.items) }
 {
@@ -159,15 +160,15 @@ fn judge_case<'a, L: Ledger>(
     let profile = view.profile();
     let level = judged.level;
     let test = |pkg: &Pkg| visible(pkg, profile, level);
-    let candidates = Candidates::among(view.seen(), level, test);
+    let candidates = view.candidates(level, test);
     judge_classes(
         alloc,
         &candidates,
         judged,
-        view,
+        view.states(),
         sites,
         required.as_slice(),
-        &classes(),
+        classes,
         options,
         budget,
         given,
@@ -208,12 +209,25 @@ fn judge_member<'a, L: Ledger>(
         alloc, options, repo, &*index, views, number, pkg, body, plain,
     )?;
     judge_pkg(
-        alloc, repo, index, ruled, views, number, pkg, body, options, budget, given, progress,
+        alloc,
+        repo,
+        index,
+        ruled,
+        views,
+        number,
+        pkg,
+        body,
+        &classes(),
+        options,
+        budget,
+        given,
+        progress,
         steps,
     )
 }
 
-fn judge_pkg<'a, L: Ledger>(
+/// Judges the queries of a package for these classes.
+pub(crate) fn judge_pkg<'a, L: Ledger>(
     alloc: Global,
     repo: &Repo,
     index: &'a PkgIndex<'a>,
@@ -222,6 +236,7 @@ fn judge_pkg<'a, L: Ledger>(
     number: u32,
     pkg: &'a Pkg,
     body: &'a Body,
+    classes: &[Class],
     options: &Options,
     budget: u32,
     given: &Known,
@@ -234,14 +249,14 @@ fn judge_pkg<'a, L: Ledger>(
     requires numbered { slice_get repo.now.pkgs number ≡ Some pkg.now }
     requires most { budget ≤ 1000000 }
     requires somewhere { IsSomewhere budget given.now progress.old steps.old }
-    ensures judges { Judges budget given.now (flat_map (case_queries options.now) (filter_map (case_in repo.now.pkgs (record { number = number; pkg = pkg.now; body = body.now })) repo.now.profiles)) progress.old progress.new steps.old steps.new result }
+    ensures judges { Judges budget given.now (flat_map (class_queries options.now classes.now) (filter_map (case_in repo.now.pkgs (record { number = number; pkg = pkg.now; body = body.now })) repo.now.profiles)) progress.old progress.new steps.old steps.new result }
     ensures unsolved { budget ≡ 0 → steps.new.solve ≡ steps.old.solve }
 {
     let sites = PkgSites::new(alloc, ruled, index, pkg, body)?;
     let mut shared = Shared::new(alloc);
     let mut required = Vec::new(alloc);
     for view in views {
-        if let Some(level) = view.judged(number) {
+        if let Some(level) = view.judged(number, pkg) {
             let judged = JudgedPkg {
                 number,
                 pkg,
@@ -255,6 +270,7 @@ fn judge_pkg<'a, L: Ledger>(
                 &*view,
                 &sites,
                 &judged,
+                classes,
                 options,
                 budget,
                 given,

@@ -9,7 +9,7 @@ use crate::JudgeFault;
 use crate::judging::Progress;
 use crate::plainly::noted;
 use crate::used::Used;
-use crate::views::all_views;
+use crate::views::{Asked, all_views};
 use crate::walking::judge_all;
 use gv_base::{Ledger, Steps};
 use gv_cert::Known;
@@ -61,7 +61,7 @@ fn judge_indexed<'a, L: Ledger>(
     requires ruled { ruled.now ≡ repo.now.profiles }
     ensures { JudgesAll options.now certs.now repo.now steps.old steps.new result }
 {
-    let views = all_views(alloc, index, repo.profiles.items())?;
+    let views = all_views(alloc, index, repo.profiles.items(), Asked::Many)?;
     let mut plain = noted(alloc, repo, options)?;
     let mut progress = Progress {
         used: Used::new(alloc),

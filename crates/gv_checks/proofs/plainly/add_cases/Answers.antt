@@ -10,7 +10,7 @@ use Rattle.gv_checks.proofs.plainly.add_cases.Goals as goal
 
 pub add_judged-requires-clause-level : goal.add_judged-requires-clause-level
 add_judged-requires-clause-level c =
-    c.judged-level.ensures c.args.pkg.now
+    c.judged-level.ensures
     (ap (λ l. slice_get l c.args.number) (seen_at c.args.repo.now.pkgs c.args.repo.now.profiles c.args.views.now c.loop-view.view-index c.view-item.result c.requires.views c.loop-view-test.true c.view-item.is).pkgs_are
     ∙ c.requires.numbered)
     ∙ ap (judged c.args.pkg.now) (sym c.profile.ensures)

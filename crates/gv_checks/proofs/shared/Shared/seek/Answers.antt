@@ -9,8 +9,8 @@ pub returns-in-Some-clause-at : goal.returns-in-Some-clause-at
 returns-in-Some-clause-at g c =
     let is : c.add_key.new.key.items ≡ key_of (query_of (case_of c.args.judged.now) c.args.class) = search rules in
     found_at (record { allowed = c.key_law.ensures.allowed; failing = c.key_law.ensures.failing }) (query_of (case_of c.args.judged.now) c.args.class) c.first-first.result c.args.self.now.queries.items c.add_key.new.key.items c.in-Some.place
-    (first_same c.args.judged.now c.args.view.now c.args.sites.now c.args.required.now c.requires.parts c.args.class c.first-first.result c.first-first.ensures)
+    (first_same c.args.judged.now c.args.states.now c.args.sites.now c.args.required.now c.requires.parts c.args.class c.first-first.result c.first-first.ensures)
     c.requires.here.shared is c.in-Some.ensures
 
 pub lower-requires-clause-first : goal.lower-requires-clause-first
-lower-requires-clause-first g c = first_same c.args.judged.now c.args.view.now c.args.sites.now c.args.required.now c.requires.parts c.args.class c.first-first.result c.first-first.ensures
+lower-requires-clause-first g c = first_same c.args.judged.now c.args.states.now c.args.sites.now c.args.required.now c.requires.parts c.args.class c.first-first.result c.first-first.ensures
