@@ -64,6 +64,7 @@ agrees_after options edits told seen before now l j = record {
   found = subst (λ es. IsFound es told l.found) (sym (ap (λ n. take n edits) j.seen ∙ take_all edits)) j.found;
   within = j.within;
   reports = j.reports;
+  mentioned = j.mentioned;
 }
 
 -- ---- one more edit: what was kept is of the edits before it
@@ -83,6 +84,7 @@ agrees_with s edit told agrees = by s.last agrees
       found = subst (λ es. IsFound es told l.found) (sym (take-append-le l.seen s.edits (edit ∷ []) kept.few)) kept.found;
       within = kept.within;
       reports = kept.reports;
+      mentioned = kept.mentioned;
     }
       where
         at_most : (n m seen : ℕ) → seen ≤ n → m ≡ n + 1 → seen ≤ m

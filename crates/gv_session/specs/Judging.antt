@@ -9,6 +9,7 @@ use Rattle.gv_load.specs.Repository.{AreInPackageOrder}
 use Rattle.gv_load.specs.declared.loading.Repo.{Repo}
 use Rattle.gv_report.specs.declared.options.Options.{Options}
 use Rattle.gv_checks.specs.Limits.{IsWithin}
+use Rattle.gv_checks.specs.Mentioned.{are_mentioned}
 use Rattle.gv_checks.specs.Queries.{queries}
 use Rattle.gv_checks.specs.Renewal.{IsRenewed}
 use Rattle.gv_checks.specs.RepoReports.{scan_reports}
@@ -41,6 +42,7 @@ pub record IsJudgedFor (o : Outset) (now : Counts) (l : Last) : Type 0 where
   pub seen : l.seen ≡ length o.edits
   pub within : AllByRecursion IsWithin (queries o.options repo)
   pub reports : l.reports ≡ scan_reports o.options repo
+  pub mentioned : l.mentioned ≡ are_mentioned l.repo.bodies
   pub lowered : now.lower ≤ o.before.lower + length (queries o.options repo)
   pub few : IfSome o.told (λ files. now.lower ≤ o.before.lower + due o.options repo o.edits o.seen)
 
@@ -59,6 +61,7 @@ pub record IsAnew (options : Options) (repo : Repo) (most : ℕ) (edits : List E
   pub seen : l.seen ≡ length edits
   pub within : AllByRecursion IsWithin (queries options repo)
   pub reports : l.reports ≡ scan_reports options repo
+  pub mentioned : l.mentioned ≡ are_mentioned repo.bodies
   pub lowered : now.lower ≤ before.lower + length (queries options repo)
 
 -- those of the repository that the files with the edits load to, all judged anew
@@ -78,3 +81,4 @@ pub record IsAgain (options : Options) (paths : List (List ℕ)) (part whole : R
   pub found : l.found ≡ most
   pub seen : l.seen ≡ length edits
   pub renewed : IsRenewed options paths whole before now l.reports
+  pub mentioned : l.mentioned ≡ are_mentioned part.bodies

@@ -16,6 +16,7 @@ use Rattle.gv_load.specs.declared.faults.LoadFault.TheVariants as loads
 use Rattle.gv_load.specs.declared.loading.Repo.{Repo}
 use Rattle.gv_report.specs.declared.options.Options.{Options}
 use Rattle.gv_checks.specs.Limits.{IsWithin, Refuses}
+use Rattle.gv_checks.specs.Mentioned.{are_mentioned}
 use Rattle.gv_checks.specs.Queries.{queries}
 use Rattle.gv_checks.specs.RepoReports.{scan_reports, scan_text}
 use Rattle.gv_checks.specs.declared.fault.JudgeFault.TheVariants as judges
@@ -67,7 +68,8 @@ pub record IsReport (s : State) (told : Option FileMap) (before now : Counts) (t
   pub few : IfSome told (λ files. now.lower ≤ before.lower + due s.options repo s.edits (seen_in s))
 
 -- what a report left is so of the files with the edits that it saw: the repository that is kept is theirs but for its notes, so many
--- files are found at most, each of its queries was within the limits, and the reports are those of its scan
+-- files are found at most, each of its queries was within the limits, the reports are those of its scan, and the names that its
+-- packages mention are known by their numbers
 pub record IsLast (options : Options) (edits : List Edit) (told : Option FileMap) (l : Last) : Type 0 where
   pub repo : Repo
   pub but : IsAllBut l.repo repo
@@ -79,6 +81,7 @@ pub record IsLast (options : Options) (edits : List Edit) (told : Option FileMap
   pub found : IsFound (take l.seen edits) told l.found
   pub within : AllByRecursion IsWithin (queries options repo)
   pub reports : l.reports ≡ scan_reports options repo
+  pub mentioned : l.mentioned ≡ are_mentioned l.repo.bodies
 
 -- what a session keeps is so of these files
 abbrev pub Agrees : (told : Option FileMap) → State → Type 0

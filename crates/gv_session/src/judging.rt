@@ -1,11 +1,12 @@
 //! The reports of the edited files: judged anew, or renewed from those of the last report.
 //!
-//! Judging anew costs what `load_counted` and `judge` cost. After edits of entries alone a report costs what `reread_entries` and
+//! Judging anew costs what `load_counted`, `judge` and `Mentioned::of` cost. After edits of entries alone a report costs what `reread_entries` and
 //! `renew` cost; where it isn't told by these entries alone what they come to, what `load_counted`, `with_entries` and `renew` cost.
 ghost use Rattle.std.specs.Prelude.{◌≡◌, ◌<◌, ◌≤◌, Some, length, IfOk, IfErr, IfSome, OnOk};
 ghost use Rattle.gv_load.specs.EntryEdits.{IsPartOf};
 ghost use Rattle.gv_load.specs.Repository.{AreInPackageOrder};
 ghost use Rattle.gv_load.specs.declared.loading.Repo.{Repo};
+ghost use Rattle.gv_checks.specs.Mentioned.{are_kept};
 ghost use Rattle.gv_checks.specs.Renewal.{AreOfBefore};
 ghost use Rattle.gv_session.specs.Due.{new_paths};
 ghost use Rattle.gv_session.specs.Judging.{IsAgain, IsAll, IsAnew, IsJudgedFor, IsRefusedFor, outset, seen_by};
@@ -18,7 +19,7 @@ use crate::small::small_edits;
 use crate::{Last, SessionFault};
 use gv_base::{Ledger, Steps, Tree};
 use gv_cert::Known;
-use gv_checks::{Judged, judge, renew};
+use gv_checks::{Judged, Mentioned, judge, renew};
 use gv_edits::Edits;
 use gv_load::{Changed, EntryEdits, Loaded, Repo, Reread, entries_law, with_entries};
 use gv_report::{Options, Reports};
@@ -107,17 +108,21 @@ fn judge_small<T: Tree, L: Ledger>(
         repo: old,
         found,
         reports,
+        mentioned,
     } = last;
+    let kept = mentioned.without(alloc, &old, entries)?;
     match reread_edited(alloc, tree, edits, old, found, entries) {
         Ok(Reread::Done { repo, found }) => judge_again(
-            alloc, reports, repo, found, entries, edits, options, steps,
+            alloc, reports, kept, repo, found, entries, edits, options, steps,
         ),
         Ok(Reread::Unclear { repo }) => {
+            let mentioned = kept.with(alloc, &repo, entries)?;
             let last = Last {
                 seen,
                 repo,
                 found,
                 reports,
+                mentioned,
             };
             judge_loaded(alloc, last, entries, tree, edits, options, steps)
         }
@@ -152,10 +157,12 @@ fn judge_loaded<T: Tree, L: Ledger>(
         Ok(loaded) => loaded,
         Err(fault) => return Err(load_fault(fault)),
     };
+    let kept = last.mentioned.without(alloc, &last.repo, entries)?;
     match with_entries(alloc, last.repo, repo, entries)? {
         Changed::Part { repo } => judge_again(
             alloc,
             last.reports,
+            kept,
             repo,
             found,
             entries,
@@ -188,21 +195,24 @@ fn judge_anew<L: Ledger>(
                 certs: _,
                 queries: _,
             } = judged;
+            let mentioned = Mentioned::of(alloc, &repo)?;
             Ok(Last {
                 seen: edits.len(),
                 repo,
                 found,
                 reports,
+                mentioned,
             })
         }
         Err(fault) => Err(judge_fault(fault, repo)),
     }
 }
 
-// The reports of the last report, renewed after edits of entries.
+// The reports of the last report, renewed after edits of entries, with the names that packages which aren't edited mention.
 fn judge_again<L: Ledger>(
     alloc: Global,
     before: Reports,
+    kept: Mentioned,
     repo: Repo,
     found: u64,
     entries: &EntryEdits,
@@ -212,16 +222,21 @@ fn judge_again<L: Ledger>(
 ) -> Result<Last, SessionFault>
     requires bodies { length repo.bodies ≡ length repo.pkgs }
     requires order { AreInPackageOrder repo.pkgs }
+    requires kept { kept ≡ are_kept entries.now repo }
     ensures judged { (whole : Repo) → IsPartOf entries.now repo whole → AreOfBefore options.now entries.now whole before
         → IfOk result (IsAgain options.now entries.now repo whole found edits.now steps.old steps.new) }
     ensures cause { (whole : Repo) → IsPartOf entries.now repo whole → AreOfBefore options.now entries.now whole before → IfErr result (JudgeCause options.now whole) }
 {
-    match renew(alloc, &repo, options, entries, before, steps) {
+    let Ok(mentioned) = kept.with(alloc, &repo, entries) else {
+        return Err(SessionFault::NoMemory);
+    };
+    match renew(alloc, &repo, options, entries, &mentioned, before, steps) {
         Ok(reports) => Ok(Last {
             seen: edits.len(),
             repo,
             found,
             reports,
+            mentioned,
         }),
         Err(fault) => Err(judge_fault(fault, repo)),
     }

@@ -1,5 +1,6 @@
 //! What a report leaves for the next one.
 
+use gv_checks::Mentioned;
 use gv_load::Repo;
 use gv_report::Reports;
 
@@ -14,4 +15,6 @@ pub struct Last {
     pub found: u64,
     /// The reports of its scan, in order.
     pub reports: Reports,
+    /// Of each package of the repository the numbers of the names that its classes mention.
+    pub mentioned: Mentioned,
 }

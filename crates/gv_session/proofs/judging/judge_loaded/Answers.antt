@@ -1,11 +1,19 @@
-use Rattle.std.proofs.Common.{refl, subst}
+use Rattle.std.proofs.Common.{refl, subst, ◌∙◌}
 use Rattle.std.specs.Prelude.{Some}
 use Rattle.std.proofs.lemmas.Result.{IfOk-weaker}
 use Rattle.gv_load.specs.Replacing.{IsChange}
 use Rattle.gv_load.specs.declared.replacing.Changed.TheVariants.{Part}
 use Rattle.gv_session.specs.Judging.{IsJudgedFor, Outset, outset}
-use Rattle.gv_session.proofs.JudgingLemmas.{IsWhole, all_other, refused_again, renewed, whole_loaded}
+use Rattle.gv_session.proofs.JudgingLemmas.{IsWhole, all_other, refused_again, renewed, same_kept, whole_loaded}
 use Rattle.gv_session.proofs.judging.judge_loaded.Goals as goal
+
+pub judge_again-requires-clause-kept : goal.judge_again-requires-clause-kept
+judge_again-requires-clause-kept g c =
+    let o : Outset = outset c.args.options.now c.args.edits.now (g.T.Tree.files c.args.tree.now) (Some c.args.last.seen) c.args.steps.now in
+    let change : IsChange c.args.entries.now c.args.last.repo c.in-Ok.loaded.repo (Part c.in-Part.repo) = subst (IsChange c.args.entries.now c.args.last.repo c.in-Ok.loaded.repo) c.in-Part.is c.in_ok-repo.ensures in
+    let w : IsWhole o c.args.entries.now c.requires.last.repo c.in-Part.repo c.in-Ok.loaded.found =
+    whole_loaded o c.args.last c.args.entries.now c.requires.last c.requires.small c.requires.some c.entries_law.ensures c.in-Ok.loaded.repo c.in-Ok.loaded.found c.in-Ok.ensures.repo c.in-Ok.ensures.found c.in-Part.repo change in
+    c.in_ok-kept.ensures ∙ same_kept o c.args.last c.args.entries.now c.requires.last c.requires.small c.requires.some c.in-Part.repo c.in-Ok.loaded.found w
 
 pub returns-in-Part-clause-judged : goal.returns-in-Part-clause-judged
 returns-in-Part-clause-judged g c =

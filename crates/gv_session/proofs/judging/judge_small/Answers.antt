@@ -1,13 +1,32 @@
-use Rattle.std.proofs.Common.{refl, subst}
+use Rattle.std.proofs.Common.{◌≡◌, ap, refl, subst, sym, ◌∙◌}
 use Rattle.std.specs.Prelude.{Some}
 use Rattle.gv_load.specs.Rereading.{IsReread, IsRereadOf}
 use Rattle.gv_edits.specs.Edits.{edited_told}
+use Rattle.gv_checks.specs.Mentioned.{are_kept}
 use Rattle.gv_session.specs.Judging.{Outset, outset}
-use Rattle.gv_session.proofs.JudgingLemmas.{IsWhole, entries_are, refused_again, renewed, whole_reread}
+use Rattle.gv_session.proofs.JudgingLemmas.{IsWhole, entries_are, refused_again, renewed, same_kept, whole_reread}
 use Rattle.gv_session.proofs.judging.judge_small.Goals as goal
 
 pub reread_edited-requires-clause-entries : goal.reread_edited-requires-clause-entries
 reread_edited-requires-clause-entries g c = entries_are c.args.last.repo _ c.args.entries.now c.requires.small
+
+pub without-requires : goal.without-requires
+without-requires g c = c.requires.last.mentioned
+
+pub with-requires-clause-kept : goal.with-requires-clause-kept
+with-requires-clause-kept g c =
+    let same : c.in-Ok-Unclear.repo ≡ c.args.last.repo =
+    subst (IsReread c.args.entries.now c.args.last.repo c.args.last.found (edited_told (g.T.Tree.files c.args.tree.now) c.args.edits.now)) c.in-Ok-Unclear.field-0-is c.in-Ok-Unclear.ensures.reread in
+    c.in_ok-kept.ensures ∙ ap (are_kept c.args.entries.now) (sym same)
+
+pub judge_again-requires-clause-kept : goal.judge_again-requires-clause-kept
+judge_again-requires-clause-kept g c =
+    let o : Outset = outset c.args.options.now c.args.edits.now (g.T.Tree.files c.args.tree.now) (Some c.args.last.seen) c.args.steps.now in
+    let is : IsRereadOf c.args.entries.now c.args.last.repo c.args.last.found (edited_told (g.T.Tree.files c.args.tree.now) c.args.edits.now) c.in-Ok-Done.repo c.in-Ok-Done.found =
+    subst (IsReread c.args.entries.now c.args.last.repo c.args.last.found (edited_told (g.T.Tree.files c.args.tree.now) c.args.edits.now)) c.in-Ok-Done.field-0-is c.in-Ok-Done.ensures.reread in
+    let w : IsWhole o c.args.entries.now c.requires.last.repo c.in-Ok-Done.repo c.in-Ok-Done.found =
+    whole_reread o c.args.last c.args.entries.now c.requires.last c.requires.small c.requires.some c.in-Ok-Done.repo c.in-Ok-Done.found is in
+    c.in_ok-kept.ensures ∙ same_kept o c.args.last c.args.entries.now c.requires.last c.requires.small c.requires.some c.in-Ok-Done.repo c.in-Ok-Done.found w
 
 pub returns-in-Ok-Done-clause-judged : goal.returns-in-Ok-Done-clause-judged
 returns-in-Ok-Done-clause-judged g c =
