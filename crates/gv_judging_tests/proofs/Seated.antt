@@ -20,6 +20,7 @@ kept_on options edits edit told l is = record {
   found = subst (λ (es : List Edit). IsFound es told l.found) (sym (take-append-le l.seen edits (edit ∷ []) is.few)) is.found;
   within = is.within;
   reports = is.reports;
+  mentioned = is.mentioned;
 }
 
 pub agrees_on : (told : Option FileMap) (s s' : State) (edit : Edit) → s' ≡ with_edit s edit → Agrees told s → Agrees told s'

@@ -1,14 +1,15 @@
 //! Keys of queries on repositories made by hand. Each line of a table is one case.
-ghost use Rattle.std.specs.Prelude.{IfSome};
+ghost use Rattle.std.specs.Prelude.{◌≡◌, IfSome};
 ghost use Rattle.gv_usestate.specs.Kinds.{IsOneOf};
 
 use crate::lower_made::{body, eapi_of, pkgs, profile};
 use gv_base::NoMemory;
 use gv_entry::Body;
-use gv_facts::{Level, Pkgs, Profile, Profiles};
+use gv_expr::DepExpr;
+use gv_facts::{Level, Pkg, Pkgs, Profile, Profiles};
 use gv_lower::{ClassSites, RequiredFlags, add_class_key, add_required_key, key_law};
 use gv_usestate::{ProfileStates, RuledFlags};
-use gv_visible::{PkgIndex, VisiblePkgs};
+use gv_visible::{Candidates, PkgIndex, visible};
 use std::alloc::Global;
 use std::process::Abort;
 
@@ -46,6 +47,27 @@ fn first(profiles: &[Profile]) -> Option<&Profile>
     }
 }
 
+// Adds the key of a class of the package.
+fn add_class<'a>(
+    alloc: Global,
+    index: &'a PkgIndex<'a>,
+    ruled: &'a RuledFlags<'a>,
+    states: &ProfileStates<'_>,
+    profile: &'a Profile,
+    level: Level,
+    pkg: &'a Pkg,
+    class: &'a DepExpr,
+    key: &mut Vec<u8>,
+) -> Result<(), NoMemory>
+    requires one { IsOneOf ruled.now profile.now }
+    requires states { states.now ≡ profile.now }
+{
+    let sites = ClassSites::new(alloc, ruled, pkg, index, class)?;
+    let test = |pkg: &Pkg| visible(pkg, profile, level);
+    let candidates = Candidates::over(index, profile, level, test);
+    add_class_key(&sites, &candidates, states, key)
+}
+
 // The key of the query about RDEPEND of the first package, at stable.
 fn key_in<'a>(
     alloc: Global,
@@ -56,7 +78,6 @@ fn key_in<'a>(
 ) -> Result<Vec<u8>, NoMemory>
     requires { IsOneOf ruled.now profile.now }
 {
-    let seen = VisiblePkgs::new(alloc, index, profile)?;
     let states = ProfileStates::new(alloc, profile)?;
     let mut key = Vec::new(alloc);
     for pkg in index.pkgs().items().iter().take(1) {
@@ -65,8 +86,17 @@ fn key_in<'a>(
             add_required_key(&flags, &states, Level::Stable, &mut key)?;
         }
         if let Some(class) = &body.rdepend {
-            let sites = ClassSites::new(alloc, ruled, pkg, index, class)?;
-            add_class_key(&sites, &seen, &states, Level::Stable, &mut key)?;
+            add_class(
+                alloc,
+                index,
+                ruled,
+                &states,
+                profile,
+                Level::Stable,
+                pkg,
+                class,
+                &mut key,
+            )?;
         }
     }
     Ok(key)
