@@ -4,8 +4,9 @@
     session.py PROGRAM TREE [CHANGES]
 
 Of CHANGES entries (6 where it isn't given), drawn by a fixed number, each is put with one more atom in RDEPEND, put without KEYWORDS,
-or cut, in turn, and then put as it was. Prints for each report the seconds by the clock and of the program's processor, and its
-bytes. Exit status 1 where the report behind an entry that was put as it was isn't the first one, or the session doesn't end with 0.
+or cut, in turn, and then put as it was; and last a thousand entries at once, with one more atom, and as they were. Prints for each
+report the seconds by the clock and of the program's processor, and its bytes. Exit status 1 where the report behind entries that
+were put as they were isn't the first one, or the session doesn't end with 0.
 """
 import os
 import random
@@ -14,6 +15,7 @@ import sys
 import time
 
 CACHE = "metadata/md5-cache"
+MANY = 1000
 
 
 class Session:
@@ -70,6 +72,14 @@ def main(program, tree, changes):
         session.report(entry + " changed")
         session.edit(CACHE + "/" + entry, content)
         same = (session.report(entry + " as it was") == first) and same
+    many = draw.sample(entries, min(MANY, len(entries)))
+    contents = {entry: open(os.path.join(cache, entry), "rb").read() for entry in many}
+    for entry in many:
+        session.edit(CACHE + "/" + entry, changed(contents[entry], 0))
+    session.report("%d entries changed" % len(many))
+    for entry in many:
+        session.edit(CACHE + "/" + entry, contents[entry])
+    same = (session.report("%d entries as they were" % len(many)) == first) and same
     status = session.end()
     print("the same" if same else "another report", "and status %d" % status)
     return 0 if same and status == 0 else 1

@@ -4,9 +4,11 @@
     sessions.py BINARY
 
 For each of 200 random repositories a script is made of 20 random edits with a `report` before them and behind each; a session
-that ends at a report has to end as the scan does. Prints a line for each that went wrong, and last how many passed. Exit status
-1 where one went wrong.
+that ends at a report has to end as the scan does. Every fourth repository has 400 packages besides that no other one mentions, so that
+an edit touches few of its packages. Prints a line for each that went wrong, and last how many passed. Exit status 1 where one went
+wrong.
 """
+import hashlib
 import os
 import random
 import subprocess
@@ -17,7 +19,7 @@ sys.dont_write_bytecode = True
 from random_repositories import draw_options, draw_repository, put_files  # noqa: E402
 from results import tell  # noqa: E402
 
-REPOSITORIES, EDITS = 200, 20
+REPOSITORIES, EDITS, OTHERS = 200, 20, 400
 LISTS = ("profiles/profiles.desc", "profiles/categories")
 
 
@@ -36,6 +38,18 @@ def drawn_edit(draw, files, other):
         return [] if path in LISTS else [(path, None)]
     on_the_way = sorted(old for old in files if old.startswith(path + "/") or path.startswith(old + "/"))
     return [(old, None) for old in on_the_way if old not in LISTS] + [(path, content)]
+
+
+def with_others(files):
+    """The files with packages of a category of their own, each of which mentions the one before it."""
+    entry = b"DEFINED_PHASES=-\nEAPI=8\nIUSE=a\nKEYWORDS=amd64 ~x86\nRDEPEND=%s\nSLOT=0\n_md5_=" + hashlib.md5(b"").hexdigest().encode() + b"\n"
+    files = dict(files)
+    files["profiles/categories"] = files.get("profiles/categories", b"") + b"zz\n"
+    for number in range(OTHERS):
+        wanted = b"a? ( zz/p%d )" % (number - 1) if number else b""
+        files["metadata/md5-cache/zz/p%d-1" % number] = entry % wanted
+        files["zz/p%d/p%d-1.ebuild" % (number, number)] = b""
+    return files
 
 
 def apply(files, folder, commands):
@@ -67,6 +81,8 @@ def served(binary, number, folder):
     """How a session over a repository ends, and how scans of the edited files say that it has to; and how many reports it has."""
     draw = random.Random(number + 9000)
     files, other = draw_repository(draw), draw_repository(draw)
+    if number % 4 == 3:
+        files = with_others(files)
     words = [word for word in draw_options(draw)[1] if word != "--fresh"]
     asked = [word for at, word in enumerate(words) if not word.startswith("--certs") and words[at - 1] != "--certs"]
     root, session = os.path.join(folder, "edited", "R"), os.path.join(folder, "session")
