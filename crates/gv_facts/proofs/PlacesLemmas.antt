@@ -1,10 +1,11 @@
 -- The places of a list with one more item.
-use Rattle.std.proofs.Common.{◌≡◌, ℕ, ◌+◌, Bool, true, false, List, [], ◌∷◌, ◌++◌, length, arith, map, filter, Some, refl, append_assoc, length-append, sym, ap, subst, ◌∙◌}
-use Rattle.std.specs.Prelude.{◌&&◌, if◌then◌else◌, slice_get}
+use Rattle.std.proofs.Common.{◌≡◌, ℕ, zero, suc, ◌+◌, Bool, true, false, List, [], ◌∷◌, ◌++◌, length, arith, map, filter, Some, refl, append_assoc, length-append, sym, ap, subst, ◌∙◌}
+use Rattle.std.specs.Prelude.{◌&&◌, if◌then◌else◌, slice_get, slice_set}
+use Rattle.std.specs.Option.{option_map_or}
 use Rattle.std.proofs.lemmas.Slice.Eq.{bytes_eq-Decides}
 use Rattle.std.specs.Cmp.Lexicographic.{same_text}
 use Rattle.std.specs.Str.{bytes_eq}
-use Rattle.std.proofs.lemmas.Bool.{false≢true}
+use Rattle.std.proofs.lemmas.Bool.{and_parts, false≢true}
 use Rattle.gv_atom.specs.declared.atom.Atom.{Atom}
 use Rattle.gv_atom.specs.Matching.{matches_named}
 use Rattle.gv_facts.specs.declared.pkg.Pkg.{Pkg}
@@ -70,6 +71,24 @@ module _ {A : Type 0} (test : A → Bool) where
 
   pub at_places : (xs : List A) → map (slice_get xs) (places_of test xs) ≡ map Some (filter test xs)
   at_places xs = at_from [] xs
+
+-- An item in the place of one that passes as it does leaves all places.
+module _ {A : Type 0} (test : A → Bool) where
+  pub from_set : (n : ℕ) (xs : List A) (place : ℕ) (x : A) → ((old : A) → slice_get xs place ≡ Some old → test x ≡ test old)
+      → places_from n test (slice_set xs place x) ≡ places_from n test xs
+  from_set n [] place x alike = refl
+  from_set n (y ∷ ys) zero x alike = ap (λ b. if b then n ∷ places_from (n + 1) test ys else places_from (n + 1) test ys) (alike y refl)
+  from_set n (y ∷ ys) (suc place) x alike = ap (λ r. if test y then n ∷ r else r) (from_set (n + 1) ys place x alike)
+
+-- a package of the same category and name
+pub same_places : (pkgs : List Pkg) (place : ℕ) (p : Pkg) → option_map_or (is_pkg_of p.category p.name) (slice_get pkgs place) false ≡ true
+    → (category name : List ℕ) → places_of (is_pkg_of category name) (slice_set pkgs place p) ≡ places_of (is_pkg_of category name) pkgs
+same_places pkgs place p there category name = from_set (is_pkg_of category name) 0 pkgs place p alike
+  where
+    alike : (old : Pkg) → slice_get pkgs place ≡ Some old → is_pkg_of category name p ≡ is_pkg_of category name old
+    alike old here =
+        let parts = and_parts (bytes_eq p.category old.category) (bytes_eq p.name old.name) (ap (λ o. option_map_or (is_pkg_of p.category p.name) o false) (sym here) ∙ there) in
+        ap (λ c. bytes_eq category c && bytes_eq name p.name) (same_text p.category old.category (sym parts.0)) ∙ ap (λ m. bytes_eq category old.category && bytes_eq name m) (same_text p.name old.name (sym parts.1))
 
 both_hold : (x y z : Bool) → (x && y) ≡ true → z ≡ (x && (y && z))
 both_hold true true z h = refl

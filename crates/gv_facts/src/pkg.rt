@@ -1,5 +1,6 @@
 //! Packages. A copy costs O(bytes), and so does `tell`; the other calls cost what `index` says.
-ghost use Rattle.std.specs.Prelude.{◌≡◌, [], ◌∷◌, ◌++◌, Some, filter, map, slice_get, IfOk, OnOk, OnErr};
+ghost use Rattle.std.specs.Prelude.{◌≡◌, [], ◌∷◌, ◌++◌, Some, false, true, filter, map, slice_get, slice_set, IfOk, OnOk, OnErr};
+ghost use Rattle.std.specs.Option.{option_map_or};
 ghost use Rattle.gv_facts.specs.Places.{is_pkg_of, places_of};
 ghost use Rattle.gv_facts.specs.Values.{IsPkgValue};
 
@@ -115,6 +116,14 @@ impl Pkgs {
             .add(item.category.bytes(), item.name.bytes(), place)?;
         self.items.push_reserved(item);
         Ok(())
+    }
+
+    /// Puts a package in the place of one of the same category and name. Takes no memory.
+    pub fn set(&mut self, place: usize, item: Pkg)
+        requires { option_map_or (is_pkg_of item.category item.name) (slice_get self.old place) false ≡ true }
+        ensures { self.new ≡ slice_set self.old place item }
+    {
+        self.items[place] = item;
     }
 
     /// The packages, in order, given away.
