@@ -62,10 +62,7 @@ pub fn known_one<L: Ledger>(
     ensures knows { KnowsNamed options.now certs.now repo.now name.now result }
     ensures counted { CountsKnown result steps.old steps.new }
 {
-    let index = match PkgIndex::new(alloc, &repo.pkgs) {
-        Ok(index) => index,
-        Err(NoMemory) => return Err(LowerFault::NoMemory),
-    };
+    let index = PkgIndex::new(&repo.pkgs);
     known_among(alloc, &index, repo, name, options, certs, steps)
 }
 

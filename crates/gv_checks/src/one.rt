@@ -113,10 +113,7 @@ pub fn ask_one<L: Ledger>(
     ensures answers { AnswersNamed options.now certs.now repo.now name.now result }
     ensures counted { CountsOne result steps.old steps.new }
 {
-    let index = match PkgIndex::new(alloc, &repo.pkgs) {
-        Ok(index) => index,
-        Err(NoMemory) => return Err(JudgeFault::NoMemory),
-    };
+    let index = PkgIndex::new(&repo.pkgs);
     ask_among(alloc, &index, repo, name, options, certs, steps)
 }
 

@@ -58,7 +58,7 @@ pub(crate) fn plain_among(
 pub fn plain(alloc: Global, repo: &Repo, options: &Options) -> Result<Reports, NoMemory>
     ensures { IfOk result (λ reports. reports ≡ filter (selected options.now) (plain_reports repo.now)) }
 {
-    let index = PkgIndex::new(alloc, &repo.pkgs)?;
+    let index = PkgIndex::new(&repo.pkgs);
     plain_over(alloc, repo, &index, options)
 }
 

@@ -65,7 +65,7 @@ pub fn recall<L: Ledger>(
     ensures recalls { Recalls options.now certs.now repo.now result }
     ensures unsolved { steps.new.solve ≡ steps.old.solve }
 {
-    let index = PkgIndex::new(alloc, &repo.pkgs)?;
+    let index = PkgIndex::new(&repo.pkgs);
     let ruled = RuledFlags::new(alloc, repo.profiles.items())?;
     recall_over(alloc, repo, &index, &ruled, options, certs, steps)
 }

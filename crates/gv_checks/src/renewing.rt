@@ -77,7 +77,7 @@ fn renew_here<L: Ledger>(
     ensures renewed { IfOk result (IsRenewedHere options.now edits.now repo.now before steps.old steps.new) }
     ensures cause { IfErr result (Refuses options.now.budget [] (filter (is_due edits.now) (queries options.now repo.now))) }
 {
-    let index = PkgIndex::new(alloc, &repo.pkgs)?;
+    let index = PkgIndex::new(&repo.pkgs);
     let ruled = RuledFlags::new(alloc, repo.profiles.items())?;
     renew_over(
         alloc, repo, &index, &ruled, options, edits, mentioned, before, steps,

@@ -43,7 +43,7 @@ pub fn judge<L: Ledger>(
 ) -> Result<Judged, JudgeFault>
     ensures { JudgesAll options.now certs.now repo.now steps.old steps.new result }
 {
-    let index = PkgIndex::new(alloc, &repo.pkgs)?;
+    let index = PkgIndex::new(&repo.pkgs);
     let ruled = RuledFlags::new(alloc, repo.profiles.items())?;
     judge_over(alloc, repo, &index, &ruled, options, certs, steps)
 }

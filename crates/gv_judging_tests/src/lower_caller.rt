@@ -24,7 +24,7 @@ pub(crate) fn allowed_among<L: Ledger>(
 {
     let level = Level::Stable;
     let test = |pkg: &Pkg| visible(pkg, profile, level);
-    let candidates = Candidates::new(alloc, pkgs, profile, level, test)?;
+    let candidates = Candidates::new(pkgs, profile, level, test);
     lower_allowed(alloc, number, body, &candidates, steps)
 }
 
@@ -43,6 +43,6 @@ pub(crate) fn failing_among<L: Ledger>(
 {
     let level = Level::Stable;
     let test = |pkg: &Pkg| visible(pkg, profile, level);
-    let candidates = Candidates::new(alloc, pkgs, profile, level, test)?;
+    let candidates = Candidates::new(pkgs, profile, level, test);
     lower_failing(alloc, number, body, class, &candidates, steps)
 }

@@ -120,7 +120,7 @@ fn key_among(
     profiles: &Profiles,
     body: &Body,
 ) -> Result<Vec<u8>, NoMemory> {
-    let index = PkgIndex::new(alloc, pkgs)?;
+    let index = PkgIndex::new(pkgs);
     let ruled = RuledFlags::new(alloc, profiles.items())?;
     match first(profiles.items()) {
         Some(profile) => key_over(alloc, &index, &ruled, profile, body),

@@ -238,7 +238,7 @@ fn finds<R: Abort>(
     let index = shown.index();
     let profile = shown.profile();
     let pkgs = index.pkgs();
-    let found = next_visible(alloc, pkgs, profile, level, &atom, from).expect(rt, "memory");
+    let found = next_visible(pkgs, profile, level, &atom, from);
     let found_over = next_visible_over(index, profile, level, &atom, from);
     assert_eq!(rt;
         found,
@@ -318,7 +318,7 @@ fn what_is_visible_is_found_in_order_and_by_name(rt: HostRuntime) {
     let alloc = rt.alloc();
     let pkgs = pkgs(&rt, alloc);
     let profile = profile(&rt, alloc, "=x/y-2");
-    let index = PkgIndex::new(alloc, &pkgs).expect(&rt, "memory");
+    let index = PkgIndex::new(&pkgs);
     both(&rt, alloc, &index, &profile);
 }
 
@@ -329,7 +329,7 @@ fn candidates_tell_what_they_were_given(rt: HostRuntime) {
     let profile = profile(&rt, alloc, "");
     let level = Level::Testing;
     let test = |pkg: &Pkg| visible(pkg, &profile, level);
-    let candidates = Candidates::new(alloc, &pkgs, &profile, level, test).expect(&rt, "memory");
+    let candidates = Candidates::new(&pkgs, &profile, level, test);
     assert!(&rt; candidates.level() == level);
     assert_eq!(&rt; candidates.pkgs().items().len(), 6);
     assert_eq!(&rt; candidates.profile().line, 1);

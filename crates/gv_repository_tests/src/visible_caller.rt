@@ -1,30 +1,27 @@
 //! Searches as the layers above make them, with a closure that captures the profile and the level. The crate's tests call
 //! them; they stand under no `cfg(test)`, so that the check sees which closures `Candidates::new` and `Candidates::over` take.
-ghost use Rattle.std.specs.Prelude.{◌≡◌, IfOk};
+ghost use Rattle.std.specs.Prelude.{◌≡◌};
 ghost use Rattle.std.specs.List.{find};
 ghost use Rattle.gv_facts.specs.Places.{places_of};
 ghost use Rattle.gv_visible.specs.VisiblePkgs.{is_from, shows};
 
 use gv_atom::Atom;
-use gv_base::NoMemory;
 use gv_facts::{Level, Pkg, Pkgs, Profile};
 use gv_visible::{Candidates, PkgIndex, VisiblePkgs, visible};
-use std::alloc::Global;
 
 /// The number of the next visible package that the atom asks for.
 pub(crate) fn next_visible(
-    alloc: Global,
     pkgs: &Pkgs,
     profile: &Profile,
     level: Level,
     atom: &Atom,
     from: u32,
-) -> Result<Option<u32>, NoMemory>
-    ensures { IfOk result (λ next. next ≡ find (is_from from) (places_of (shows profile.now level atom.now) pkgs.now)) }
+) -> Option<u32>
+    ensures { result ≡ find (is_from from) (places_of (shows profile.now level atom.now) pkgs.now) }
 {
     let test = |pkg: &Pkg| visible(pkg, profile, level);
-    let candidates = Candidates::new(alloc, pkgs, profile, level, test)?;
-    Ok(candidates.next(atom, from))
+    let candidates = Candidates::new(pkgs, profile, level, test);
+    candidates.next(atom, from)
 }
 
 /// The same over an index that was made before.

@@ -1,5 +1,5 @@
 //! Packages beside a stored test that is known to answer which are visible.
-ghost use Rattle.std.specs.Prelude.{◌≡◌, ◌+◌, [], ◌∷◌, Some, filter, map, nat_lt, slice_get, IfOk, IfSome};
+ghost use Rattle.std.specs.Prelude.{◌≡◌, ◌+◌, [], ◌∷◌, Some, filter, map, nat_lt, slice_get, IfSome};
 ghost use Rattle.std.specs.List.{filter_map, find};
 ghost use Rattle.std.specs.Option.{option_copied, option_map_or};
 ghost use Rattle.std.specs.List.Sorted.{IsPartitionedBy};
@@ -16,9 +16,7 @@ use crate::bit_list::BitList;
 use crate::pkg_index::PkgIndex;
 use crate::visible_pkgs::VisiblePkgs;
 use gv_atom::Atom;
-use gv_base::NoMemory;
 use gv_facts::{Level, Pkg, Pkgs, Profile, matches_pkg};
-use std::alloc::Global;
 use std::marker::Model;
 
 // An index that the candidates made, or one that was made for many of them.
@@ -76,29 +74,21 @@ impl<'a, F: Fn(&Pkg) -> bool> Model for Candidates<'a, F> {
 }
 
 impl<'a, F: Fn(&Pkg) -> bool> Candidates<'a, F> {
-    /// Candidates among the packages, which it indexes: O(packages). The test answers `visible` for the profile and the
-    /// level.
-    pub fn new(
-        alloc: Global,
-        pkgs: &'a Pkgs,
-        profile: &'a Profile,
-        level: Level,
-        test: F,
-    ) -> Result<Candidates<'a, F>, NoMemory>
+    /// Candidates among the packages: O(1), without memory. The test answers `visible` for the profile and the level.
+    pub fn new(pkgs: &'a Pkgs, profile: &'a Profile, level: Level, test: F) -> Candidates<'a, F>
         requires test { AnswersVisible (F.pre test) (F.post test) profile.now level }
-        ensures pkgs { IfOk result (λ candidates. pkgs_of candidates ≡ pkgs.now) }
-        ensures profile { IfOk result (λ candidates. profile_of candidates ≡ profile.now) }
-        ensures level { IfOk result (λ candidates. level_of candidates ≡ level) }
-        ensures test { IfOk result (λ candidates. AnswersVisible (F.pre (test_of candidates)) (F.post (test_of candidates)) (profile_of candidates) (level_of candidates)) }
+        ensures pkgs { pkgs_of result ≡ pkgs.now }
+        ensures profile { profile_of result ≡ profile.now }
+        ensures level { level_of result ≡ level }
+        ensures test { AnswersVisible (F.pre (test_of result)) (F.post (test_of result)) (profile_of result) (level_of result) }
     {
-        let index = PkgIndex::new(alloc, pkgs)?;
-        Ok(Candidates {
-            index: HeldIndex::Own(index),
+        Candidates {
+            index: HeldIndex::Own(PkgIndex::new(pkgs)),
             profile,
             level,
             test,
             kept: None,
-        })
+        }
     }
 
     /// Candidates among the packages of an index: O(1), without memory. The test answers `visible` for the profile and the

@@ -6,9 +6,8 @@
 //!
 //! - `visibility`: keywords and masks. O(the package's keywords and the masks of its category and name), besides the
 //!   look-up of these by hash; without memory.
-//! - `pkg_index`: packages by category and name, in a hash map that `indexmap` keeps. O(packages) to make.
-//! - `candidates`: packages beside a stored test that is known to answer which are visible. `over` costs O(1), `new` as
-//!   much as an index. `next` takes no memory and costs a look-up, a binary search among the packages of the atom's
+//! - `pkg_index`: packages by category and name, by the hash map that the list of packages keeps. O(1) to make.
+//! - `candidates`: packages beside a stored test that is known to answer which are visible. O(1) to make. `next` takes no memory and costs a look-up, a binary search among the packages of the atom's
 //!   category and name, and then for each of those from the given number on, up to the one that it finds, O(bytes of the
 //!   atom), and where it matches O(bytes of the package) and a call of the test.
 //! - `mask_index`: the masks of a profile by category and name, in a hash map.
