@@ -155,6 +155,24 @@ fn state_by_kind(
 }
 
 // The states of the flag, by what is known of it, are the ones that are wanted.
+fn has_states_in<R: Abort>(
+    rt: &R,
+    ruled: &RuledFlags<'_>,
+    states: &ProfileStates<'_>,
+    pkg: &Pkg,
+    flag: &Text,
+    want: &str,
+    line: &str,
+)
+    requires { IsOneOf ruled.now states.now }
+{
+    let flag = flag.bytes();
+    let stable = state_text(state_by_kind(ruled, states, pkg, Level::Stable, flag));
+    let testing = state_text(state_by_kind(ruled, states, pkg, Level::Testing, flag));
+    assert_eq!(rt; want.split_once(' '), Some((stable, testing)), "{line}");
+}
+
+// So they are by sets that are made of the profile, and without them.
 fn has_states_by_kind<R: Abort>(
     rt: &R,
     alloc: Global,
@@ -169,9 +187,22 @@ fn has_states_by_kind<R: Abort>(
         return rt.abort();
     };
     let states = ProfileStates::new(alloc, profile).expect(rt, "memory");
-    let flag = flag.bytes();
-    let stable = state_text(state_by_kind(&ruled, &states, pkg, Level::Stable, flag));
-    let testing = state_text(state_by_kind(&ruled, &states, pkg, Level::Testing, flag));
+    has_states_in(rt, &ruled, &states, pkg, flag, want, line);
+    let plain = ProfileStates::of(profile);
+    has_states_in(rt, &ruled, &plain, pkg, flag, want, line);
+}
+
+// The states of the flag in this profile are the ones that are wanted.
+fn has_states_by<R: Abort>(
+    rt: &R,
+    states: &ProfileStates<'_>,
+    pkg: &Pkg,
+    flag: &Text,
+    want: &str,
+    line: &str,
+) {
+    let stable = state_text(states.state(pkg, Level::Stable, flag.bytes()));
+    let testing = state_text(states.state(pkg, Level::Testing, flag.bytes()));
     assert_eq!(rt; want.split_once(' '), Some((stable, testing)), "{line}");
 }
 
@@ -191,11 +222,11 @@ fn has_states<R: Abort>(
     let stable = state_text(state(&pkg, &profile, Level::Stable, &flag));
     let testing = state_text(state(&pkg, &profile, Level::Testing, &flag));
     assert_eq!(rt; want.split_once(' '), Some((stable, testing)), "{line}");
-    // The same by an index of the profile's rules.
+    // The same by sets that are made of the profile, and without them.
     let states = ProfileStates::new(alloc, &profile).expect(rt, "memory");
-    let stable = state_text(states.state(&pkg, Level::Stable, flag.bytes()));
-    let testing = state_text(states.state(&pkg, Level::Testing, flag.bytes()));
-    assert_eq!(rt; want.split_once(' '), Some((stable, testing)), "{line}");
+    has_states_by(rt, &states, &pkg, &flag, want, line);
+    let plain = ProfileStates::of(&profile);
+    has_states_by(rt, &plain, &pkg, &flag, want, line);
     // And by what is known of the flag.
     let mut profiles = Profiles::new(alloc);
     profiles

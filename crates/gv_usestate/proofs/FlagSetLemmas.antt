@@ -6,13 +6,27 @@ use Rattle.std.specs.Cmp.Lexicographic.{same_text}
 use Rattle.std.specs.List.{list_any}
 use Rattle.std.specs.Str.{bytes_eq}
 use Rattle.std.proofs.lemmas.Bool.{false≢true}
+use Rattle.std.proofs.lemmas.Slice.Eq.{bytes_eq-Decides}
 use Rattle.indexmap.specs.IndexSet.{insert_key}
 use Rattle.gv_base.specs.ByteMap.{Bytes}
 use Rattle.gv_base.specs.Order.{has_text}
 use Rattle.gv_facts.specs.Places.{names_flag}
 use Rattle.gv_facts.specs.declared.rules.Rule.{Rule}
 use Rattle.gv_usestate.specs.FlagSets.{has_flag, has_owned}
-use Rattle.gv_usestate.proofs.FlagMap.{flipped, key_eq}
+
+abbrev pub key_eq : Bor (List ℕ) → Bor (List ℕ) → Bool
+key_eq a b = bytes_eq a.now b.now
+
+pub flipped : (a b : List ℕ) → bytes_eq a b ≡ bytes_eq b a
+flipped a b = two (bytes_eq a b) (bytes_eq b a) (turned a b) (turned b a)
+  where
+    turned : (c d : List ℕ) → bytes_eq c d ≡ true → bytes_eq d c ≡ true
+    turned c d h = (bytes_eq-Decides d c).1 (sym (same_text c d (sym h)))
+
+    two : (s t : Bool) → (s ≡ true → t ≡ true) → (t ≡ true → s ≡ true) → s ≡ t
+    two true t f g = sym (f refl)
+    two false true f g = absurd (false≢true (g refl))
+    two false false f g = refl
 
 any_last : {A : Type 0} (test : A → Bool) (xs : List A) (x : A) → list_any test (xs ++ x ∷ []) ≡ (list_any test xs || test x)
 any_last test [] x = by (test x)

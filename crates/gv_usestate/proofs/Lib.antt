@@ -1,5 +1,4 @@
 mod Expanded
-mod FlagMap
 mod RulesAtPlaces
 mod FlagSetLemmas
 mod NamedLemmas

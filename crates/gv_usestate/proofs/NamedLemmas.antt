@@ -16,8 +16,7 @@ use Rattle.gv_facts.specs.declared.profile.Profile.{Profile}
 use Rattle.gv_facts.specs.declared.rules.Effect.{Effect}
 use Rattle.gv_facts.specs.declared.rules.Rule.{Rule}
 use Rattle.gv_usestate.specs.NamedPkgs.{Key, has_key, is_general, is_key, names_pkg}
-use Rattle.gv_usestate.proofs.FlagMap.{flipped}
-use Rattle.gv_usestate.proofs.FlagSetLemmas.{one_more_key}
+use Rattle.gv_usestate.proofs.FlagSetLemmas.{flipped, one_more_key}
 
 abbrev pub pair_eq : Key → Key → Bool
 pair_eq a b = bytes_eq a.0.now b.0.now && bytes_eq a.1.now b.1.now

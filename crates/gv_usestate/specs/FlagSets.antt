@@ -7,8 +7,10 @@ use Rattle.gv_base.specs.ByteMap.{Bytes}
 use Rattle.gv_base.specs.Order.{has_text}
 use Rattle.gv_facts.specs.Effective.{expand_flags, unprefixed_flags}
 use Rattle.gv_facts.specs.declared.profile.Profile.{Profile}
-use Rattle.gv_usestate.specs.FlagPlaces.{is_key}
 use Rattle.gv_usestate.specs.Kinds.{is_ruled}
+
+abbrev pub is_key : (flag : List ℕ) → Bor (List ℕ) → Bool
+is_key flag key = bytes_eq flag key.now
 
 abbrev pub has_flag : List (Bor (List ℕ)) → (flag : List ℕ) → Bool
 has_flag keys flag = list_any (is_key flag) keys

@@ -9,8 +9,9 @@
 //! - `named_pkgs`: the packages that atoms of rules name.
 //! - `pkg_in_profile`: a package in a profile at a level, and which rules apply to it.
 //! - `states`: the state of a flag, by the rules that name it and no others.
-//! - `profile_states`: a profile with these rules in a hash map and its own effective flags in a hash set, for many flags of many
-//!   packages.
+//! - `profile_sets`: hash sets of the flags that a profile makes effective and of the packages that its rules name, and its rules
+//!   for every package.
+//! - `profile_states`: a profile that is asked for states, with these sets for many packages and without them for few.
 //! - `ruled`: what is known of a flag's state in every one of some profiles.
 //!
 //! A word is compared in O(bytes). `state` costs a look-up by hash of the rules that name the flag, O(the package's
@@ -23,6 +24,7 @@
 mod flags;
 mod named_pkgs;
 mod pkg_in_profile;
+mod profile_sets;
 mod profile_states;
 mod restricted;
 mod ruled;

@@ -1,98 +1,86 @@
-//! A profile with its rules by flag, in a hash map, and with the flags that it makes effective and the packages that atoms of
-//! its rules name, in hash sets. The rules for every package stand once more by themselves: for a package that no atom names, as
-//! for most, they alone count, so that what a state costs doesn't grow with the rules for other packages.
+//! A profile that is asked for states of flags. The rules that name a flag are found in the hash map that the list of rules keeps.
+//! For many packages hash sets are made of the profile (`new`, at the costs of `ProfileSets::new`); for few of them it is asked as
+//! it stands (`of`, O(1), without memory).
 //!
-//! `new` costs O(1) on average for each rule, besides its look-up in the list of rules, O(bytes) for each rule for every
-//! package, and O(bytes) for each flag that the profile makes effective, which it copies. `state` takes no memory, and costs what
-//! `state` of the package, the profile, the level and the flag does, with a look-up by hash in place of the profile's sources of
-//! effective flags, and one in place of comparisons of names. `state_in` is told what is known of the flag: a plain one costs
-//! O(1), and another one look-up where the profile doesn't make it effective, two at most, and the rules for every package that
-//! name it, or all rules that name it where an atom names the package; for all flags of a package it finds once whether an atom
-//! does, and whether stable restrictions apply.
-ghost use Rattle.std.specs.Prelude.{◌≡◌, true, false, filter, List, ℕ, IfOk};
+//! `state` takes no memory. `of` a profile it costs what `state` of the package, the profile, the level and the flag does; by the
+//! sets the same, with a look-up by hash in place of the profile's sources of effective flags, and one in place of comparisons of
+//! names. `state_in` is told what is known of the flag: a plain one costs O(1), and another one, by the sets, one look-up where the
+//! profile doesn't make it effective, two at most, and the rules for every package that name it, or all rules that name it where
+//! an atom names the package; for all flags of a package it finds once whether an atom does, and whether stable restrictions
+//! apply. Without sets it goes through the sources where the flag isn't in IUSE, and through all rules that name the flag.
+ghost use Rattle.std.specs.Prelude.{◌≡◌, true, false, IfOk};
 ghost use Rattle.gv_base.specs.Order.{has_text};
 ghost use Rattle.gv_facts.specs.Effective.{is_effective};
 ghost use Rattle.gv_facts.specs.States.{state};
-ghost use Rattle.gv_usestate.specs.FlagPlaces.{AreRulesOf, HasRules};
-ghost use Rattle.gv_usestate.specs.FlagSets.{AreImplicit, has_owned, implicit_flags};
+ghost use Rattle.gv_usestate.specs.FlagSets.{implicit_flags};
 ghost use Rattle.gv_usestate.specs.Kinds.{IsKind};
-ghost use Rattle.gv_usestate.specs.NamedPkgs.{is_general};
 
-use crate::flags::add_implicit;
-use crate::named_pkgs::NamedPkgs;
 use crate::pkg_in_profile::PkgInProfile;
+use crate::profile_sets::ProfileSets;
 use crate::ruled::FlagKind;
-use crate::states::{effective_state, general_state};
-use gv_base::{NoMemory, Texts};
-use gv_facts::{FlagState, Level, Pkg, Profile, Rules};
-use indexmap::{IndexMap, IndexSet};
+use crate::sources::is_implicit;
+use crate::states::effective_state;
+use gv_base::NoMemory;
+use gv_facts::{FlagState, Level, Pkg, Profile};
 use std::alloc::Global;
 use std::marker::Model;
 
-/// A profile with the places of its rules that name each flag, and with the flags that it makes effective: made once for the
-/// profile, and asked for the states of the flags of every package at every level.
+/// A profile that is asked for the states of flags of packages at every level.
 #[derive(Drop)]
 pub struct ProfileStates<'a> {
     profile: &'a Profile,
-    places: IndexMap<&'a [u8], &'a [u32]>,
-    general: Rules,
-    named: NamedPkgs<'a>,
-    implicit: IndexSet<Vec<u8>>,
+    // What was made of it for many packages.
+    sets: Option<ProfileSets<'a>>,
 }
 
 impl<'a> Model for ProfileStates<'a> {
-    ghost use Rattle.std.specs.Prelude.{◌≡◌, filter};
+    ghost use Rattle.std.specs.Prelude.{◌≡◌, IfSome};
     ghost use Rattle.gv_facts.specs.declared.profile.Profile.{Profile};
-    ghost use Rattle.gv_usestate.specs.NamedPkgs.{is_general};
-    ghost use Rattle.gv_usestate.specs.FlagPlaces.{HasRules};
-    ghost use Rattle.gv_usestate.specs.FlagSets.{AreImplicit};
 
     ghost Value = { Profile };
 
     ghost view = { λ s. s.profile.now };
 
-    ghost invariant = { λ s. (HasRules s.places.entries s.profile.now.rules) × ((s.general ≡ filter is_general s.profile.now.rules) × ((s.named ≡ s.profile.now.rules) × (AreImplicit s.implicit.keys s.profile.now))) };
+    ghost invariant = { λ s. IfSome s.sets (λ sets. sets ≡ s.profile.now) };
 }
 
 impl<'a> ProfileStates<'a> {
-    /// An index of the profile's rules and of the flags that it makes effective.
+    /// The profile with sets that are made of it: for many packages.
     pub fn new(alloc: Global, profile: &'a Profile) -> Result<ProfileStates<'a>, NoMemory>
         ensures { IfOk result (λ states. states ≡ profile.now) }
     {
-        let places = by_flag(alloc, &profile.rules)?;
-        let general = general_rules(alloc, &profile.rules)?;
-        let named = NamedPkgs::new(alloc, &profile.rules)?;
-        let implicit = implicit_by(alloc, profile)?;
+        let sets = ProfileSets::new(alloc, profile)?;
         Ok(ProfileStates {
             profile,
-            places,
-            general,
-            named,
-            implicit,
+            sets: Some(sets),
         })
     }
 
-    /// The profile whose rules are indexed.
+    /// The profile as it stands: for few packages.
+    pub fn of(profile: &'a Profile) -> ProfileStates<'a>
+        ensures { result ≡ profile.now }
+    {
+        ProfileStates {
+            profile,
+            sets: None,
+        }
+    }
+
+    /// The profile.
     pub fn profile(&self) -> &'a Profile
         ensures { result.now ≡ self.now }
     {
         self.profile
     }
 
-    fn at(&self, flag: &[u8]) -> &[u32]
-        ensures { AreRulesOf self.now.rules flag.now result.now }
-    {
-        match self.places.get(&flag) {
-            Some(places) => places,
-            None => &[],
-        }
-    }
-
     // Whether the flag is effective for a package that doesn't have it in IUSE.
     fn is_implicit(&self, flag: &[u8]) -> bool
         ensures { result ≡ has_text (implicit_flags self.now) flag.now }
     {
-        self.implicit.contains(flag)
+        match &self.sets {
+            Some(sets) => sets.is_implicit(flag),
+            None => is_implicit(self.profile, flag),
+        }
     }
 
     fn is_effective(&self, pkg: &Pkg, flag: &[u8]) -> bool
@@ -119,10 +107,9 @@ impl<'a> ProfileStates<'a> {
         ensures value { result ≡ state pkg.old.pkg self.now pkg.old.level flag.now }
         ensures same { pkg.new ≡ pkg.old }
     {
-        if pkg.is_named(&self.named) {
-            effective_state(pkg, flag, self.at(flag))
-        } else {
-            general_state(pkg, flag, &self.general)
+        match &self.sets {
+            Some(sets) => sets.effective_state(pkg, flag),
+            None => effective_state(pkg, flag, self.profile.rules.places_of(flag)),
         }
     }
 
@@ -153,50 +140,4 @@ impl<'a> ProfileStates<'a> {
             FlagKind::Other => self.implicit_state(pkg, flag),
         }
     }
-}
-
-// The places of the rules that name each flag.
-fn by_flag<'a>(alloc: Global, rules: &'a Rules) -> Result<IndexMap<&'a [u8], &'a [u32]>, NoMemory>
-    ensures { IfOk result (λ places. HasRules places.entries rules.now) }
-{
-    let mut places = IndexMap::new(alloc);
-    for rule in rules.items() {
-        let flag = rule.flag.bytes();
-        places.insert(flag, rules.places_of(flag))?;
-    }
-    Ok(places)
-}
-
-// The rules for every package, in order.
-fn general_rules(alloc: Global, rules: &Rules) -> Result<Rules, NoMemory>
-    ensures { IfOk result (λ general. general ≡ filter is_general rules.now) }
-{
-    let mut general = Rules::new(alloc);
-    for rule in rules.items() {
-        if rule.atom.is_none() {
-            general.add(rule.copy(alloc)?)?;
-        }
-    }
-    Ok(general)
-}
-
-// The flags, as keys of their own.
-fn set_of(alloc: Global, flags: &Texts) -> Result<IndexSet<Vec<u8>>, NoMemory>
-    ensures { IfOk result (λ set. (flag : List ℕ) → has_owned set.keys flag ≡ has_text flags.now flag) }
-{
-    let mut set = IndexSet::new(alloc);
-    for flag in flags.items() {
-        let key = Vec::from_slice(alloc, flag.bytes())?;
-        set.insert(key)?;
-    }
-    Ok(set)
-}
-
-// The flags that the profile makes effective.
-fn implicit_by(alloc: Global, profile: &Profile) -> Result<IndexSet<Vec<u8>>, NoMemory>
-    ensures { IfOk result (λ set. AreImplicit set.keys profile.now) }
-{
-    let mut flags = Texts::new(alloc);
-    add_implicit(alloc, &mut flags, profile)?;
-    set_of(alloc, &flags)
 }

@@ -16,8 +16,8 @@ pub fn is_effective(pkg: &Pkg, profile: &Profile, flag: &[u8]) -> bool
     pkg.iuse.has(flag) || is_implicit(profile, flag)
 }
 
-// Whether the flag is effective in the profile for a package that doesn't have it in IUSE.
-fn is_implicit(profile: &Profile, flag: &[u8]) -> bool
+/// Whether the flag is effective in the profile for a package that doesn't have it in IUSE.
+pub(crate) fn is_implicit(profile: &Profile, flag: &[u8]) -> bool
     ensures { result ≡ has_text (implicit_flags profile.now) flag.now }
 {
     profile.iuse_implicit.has(flag) || has_expanded(profile, flag) || has_unprefixed(profile, flag)

@@ -1,7 +1,7 @@
 use Rattle.std.proofs.Common.{◌<◌, ◌≡◌, ◌∙◌, length, get_or}
 use Rattle.gv_base.specs.Order.{has_text}
 use Rattle.gv_usestate.proofs.FlagSetLemmas.{one_more_flag}
-use Rattle.gv_usestate.proofs.profile_states.set_of.Goals as goal
+use Rattle.gv_usestate.proofs.profile_sets.set_of.Goals as goal
 
 pub loop-flag-preserved : goal.loop-flag-preserved
 loop-flag-preserved c =
