@@ -20,7 +20,7 @@ use Rattle.gv_report.proofs.SortLemmas.{ascends, one}
 use Rattle.gv_report.proofs.StrictLaw.{all_stay}
 
 -- Of two reports that the order doesn't tell apart neither is before the other.
-ties_tied : (r s : Report) → ties is_before r s ≡ is_tied r s
+pub ties_tied : (r s : Report) → ties is_before r s ≡ is_tied r s
 ties_tied r s = ap (λ o. not (is_lt (report_cmp r s)) && not (is_lt o)) (report_total.antisymm s r) ∙ by (report_cmp r s)
   where
     by : (o : Ordering) → (not (is_lt o) && not (is_lt (ordering_reverse o))) ≡ is_eq o
@@ -29,7 +29,7 @@ ties_tied r s = ap (λ o. not (is_lt (report_cmp r s)) && not (is_lt o)) (report
     by Greater = refl
 
 -- Lists are in order the same list when they are so for each class of tied reports.
-by_classes : (rs ss : List Report) → ((r : Report) → ordered (filter (is_tied r) rs) ≡ ordered (filter (is_tied r) ss)) → ordered rs ≡ ordered ss
+pub by_classes : (rs ss : List Report) → ((r : Report) → ordered (filter (is_tied r) rs) ≡ ordered (filter (is_tied r) ss)) → ordered rs ≡ ordered ss
 by_classes rs ss same = one ranks (ordered ss) (ordered rs) (ascends ranks (firsts ss)) (ascends ranks (firsts rs)) class
   where
     class : (r : Report) → filter (ties is_before r) (ordered rs) ≡ filter (ties is_before r) (ordered ss)
@@ -37,7 +37,7 @@ by_classes rs ss same = one ranks (ordered ss) (ordered rs) (ascends ranks (firs
         filter_alike (ties is_before r) (is_tied r) (ties_tied r) (ordered rs) ∙ picked (is_tied r) rs ∙ same r ∙ sym (picked (is_tied r) ss)
         ∙ sym (filter_alike (ties is_before r) (is_tied r) (ties_tied r) (ordered ss))
 
-again : (rs : List Report) → ordered (ordered rs) ≡ ordered rs
+pub again : (rs : List Report) → ordered (ordered rs) ≡ ordered rs
 again rs = sym (only_ordered (ordered rs) (ordered rs) (record {
   ascending = (are_in_order rs).ascending;
   same = λ r. refl;

@@ -6,6 +6,7 @@ pub mod JsonValue
 pub mod Keyword
 pub mod Line
 pub mod Marks
+pub mod Merging
 pub mod Order
 pub mod OrderTotal
 pub mod Printable

@@ -7,6 +7,7 @@
 //! - `report`: a report, what it speaks of, and lists of them. Contracts see a report as a value; `telling` says so.
 //! - `order`: the order of reports. A comparison costs O(bytes up to the first part that differs) and takes no memory.
 //! - `distinct`: reports in order, equal ones once. O(n log n) comparisons of n reports.
+//! - `merging`: a few more among reports that are in order. O(log n) comparisons for each of them.
 //! - `options`, `selecting`: which reports are selected.
 //! - `line`, `json`: the two texts of a report. O(bytes). `printable`: which reports may be written as JSON.
 //! - `emitter`: the text of the reports that a stored test takes.
@@ -19,6 +20,7 @@ mod json;
 mod keyword;
 mod laws;
 mod line;
+mod merging;
 mod options;
 mod order;
 mod printable;
@@ -30,6 +32,7 @@ pub use distinct::ordered;
 pub use emitter::Emitter;
 pub use keyword::{Keyword, Keywords};
 pub use laws::{line_law, object_law, order_law, ordered_law, renewed_law, selected_law};
+pub use merging::merged;
 pub use options::Options;
 pub use report::{ContextName, Report, Reports, Subject};
 pub use selecting::selected;
