@@ -84,11 +84,7 @@ fn move_front(
 }
 
 // Moves those that come before the report to the end of the others, and then the report.
-fn put(
-    report: Report,
-    rest: &mut VecDeque<Report>,
-    woven: &mut Vec<Report>,
-) -> Result<(), NoMemory>
+fn put(report: Report, rest: &mut VecDeque<Report>, woven: &mut Vec<Report>) -> Result<(), NoMemory>
     requires { AreAscending is_before rest.old.items }
     ensures woven { OnOk result (woven.new.items ≡ (woven.old.items ++ ahead report rest.old.items) ++ report ∷ []) }
     ensures rest { OnOk result (rest.new.items ≡ left report rest.old.items) }

@@ -1,4 +1,4 @@
-use Rattle.std.proofs.Common.{◌≡◌, Bool, not, sym, ap, ◌∙◌}
+use Rattle.std.proofs.Common.{◌≡◌, not, sym, ap, ◌∙◌}
 use Rattle.std.specs.Ordering.{is_lt}
 use Rattle.gv_report.specs.Distinct.{is_before}
 use Rattle.gv_report.proofs.Weaving.{first_none, first_some, first_tied, tied_left}
