@@ -110,6 +110,9 @@ fn any_joined(texts: &[Text], first: &[u8], second: &[u8]) -> bool
 fn is_joined(text: &[u8], first: &[u8], second: &[u8]) -> bool
     ensures { result ≡ bytes_eq (within first.now second.now) text.now }
 {
+    if first.len() >= text.len() || text.len() - first.len() - 1 != second.len() {
+        return false;
+    }
     match behind_front(first, text) {
         Some(rest) => is_behind_slash(rest, second),
         None => false,
