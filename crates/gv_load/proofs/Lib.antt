@@ -5,6 +5,7 @@ pub mod Counting
 pub mod DirLemmas
 pub mod Drops
 pub mod EclassLemmas
+pub mod EditedIn
 pub mod EditedKept
 pub mod EditedNames
 pub mod EditedPfs

@@ -57,6 +57,10 @@ is_edited paths (Package category name version pf) = has_text paths (entry_path 
 abbrev pub is_edited_pkg : (paths : List (List ℕ)) → Pkg → Bool
 is_edited_pkg paths p = has_text paths (entry_path p.category p.pf)
 
+-- an entry of this category is edited: a path lies below the folder of its entries
+abbrev pub is_edited_in : (paths : List (List ℕ)) → (category : List ℕ) → Bool
+is_edited_in paths category = list_any (λ path. is_some (after_prefix (entry_path category []) path)) paths
+
 -- an edited package has the name of an edited entry
 abbrev pub HasEditedName : (paths : List (List ℕ)) → Pkg → Type 0
 HasEditedName paths p = is_edited_pkg paths p ≡ true → has_text (map entry_name paths) (pkg_name p) ≡ true
@@ -111,6 +115,11 @@ pub record DifferIn (paths : List (List ℕ)) (old new : Repo) : Type 0 where
 -- the maps have the same files but at these paths
 abbrev pub AreAlikeBut : (paths : List (List ℕ)) → (files files' : FileMap) → Type 0
 AreAlikeBut paths files files' = (path : List ℕ) → has_text paths path ≡ false → get files' path ≡ get files path
+
+-- where no entry of a category is edited, no package of it has an edited entry
+abbrev pub EditedInLaw : Type 0
+EditedInLaw = (paths : List (List ℕ)) (category name version pf : List ℕ)
+    → is_edited_in paths category ≡ false → is_edited paths (Package category name version pf) ≡ false
 
 -- Two repositories that are loaded of files which differ at paths of entries alone, where no directory of the profiles lies among
 -- entries, differ in packages with such an entry alone.

@@ -1,15 +1,16 @@
 //! The paths of edited entries.
 //!
 //! A path that is added costs O(its bytes) and O(log n) comparisons of texts among n paths. `is_edited`, `is_of` and `is_named` take no
-//! memory and cost what look-ups of `joined` do.
+//! memory and cost what look-ups of `joined` do. `are_in` takes none and costs O(n) comparisons of the paths' beginnings.
 ghost use Rattle.std.specs.Prelude.{◌≡◌, [], ◌∷◌, ◌++◌, ◌+◌, ◌||◌, ℕ, List, None, Some, map, IfOk, MatchOption, OnErr, OnOk};
+ghost use Rattle.std.specs.Option.{is_some};
 ghost use Rattle.std.specs.Str.{bytes_eq};
 ghost use Rattle.gv_base.specs.Cut.{after_prefix};
 ghost use Rattle.gv_base.specs.Order.{has_text};
 ghost use Rattle.gv_profile.specs.Paths.{within};
 ghost use Rattle.gv_load.specs.Categories.{name_of};
 ghost use Rattle.gv_load.specs.Paths.{entry_path};
-ghost use Rattle.gv_load.specs.EntryEdits.{entry_name, is_edited, parts_behind};
+ghost use Rattle.gv_load.specs.EntryEdits.{entry_name, is_edited, is_edited_in, parts_behind};
 
 use crate::categories::{behind, name_in};
 use crate::joined::{Joined, behind_front};
@@ -94,11 +95,56 @@ impl EntryEdits {
         }
     }
 
+    /// Whether an entry of this category is edited.
+    pub fn are_in(&self, category: &Text) -> bool
+        ensures { result ≡ is_edited_in self.now category.now }
+    {
+        any_in(self.paths.items(), category.bytes())
+    }
+
     /// Whether an entry of a package of this name is edited.
     pub fn is_named(&self, category: &Text, name: &Text) -> bool
         ensures { result ≡ has_text (map entry_name self.now) (within category.now name.now) }
     {
         self.names.has(category, name)
+    }
+}
+
+fn any_in(paths: &[Text], category: &[u8]) -> bool
+    ensures { result ≡ is_edited_in paths.now category.now }
+{
+    for path in paths {
+        if is_in(path.bytes(), category) {
+            return true;
+        }
+    }
+    false
+}
+
+fn is_in(path: &[u8], category: &[u8]) -> bool
+    ensures { result ≡ is_some (after_prefix (entry_path category.now []) path.now) }
+{
+    match after_prefix(b"metadata/md5-cache/", path) {
+        Some(rest) => is_below(category, rest),
+        None => false,
+    }
+}
+
+fn is_below(folder: &[u8], path: &[u8]) -> bool
+    ensures { result ≡ is_some (after_prefix (folder.now ++ 47 ∷ []) path.now) }
+{
+    match after_prefix(folder, path) {
+        Some(rest) => is_slash_first(rest),
+        None => false,
+    }
+}
+
+fn is_slash_first(path: &[u8]) -> bool
+    ensures { result ≡ is_some (after_prefix (47 ∷ []) path.now) }
+{
+    match after_prefix(b"/", path) {
+        Some(_) => true,
+        None => false,
     }
 }
 

@@ -1,6 +1,6 @@
 //! Laws of loads: each function does nothing, and its contract holds of all trees.
 ghost use Rattle.gv_load.specs.EntriesPass.{EclassesFitLaw, EntriesPassLaw};
-ghost use Rattle.gv_load.specs.EntryEdits.{EntriesLaw};
+ghost use Rattle.gv_load.specs.EntryEdits.{EditedInLaw, EntriesLaw};
 ghost use Rattle.gv_load.specs.Once.{OnceLaw};
 
 use gv_base::in_order_law;
@@ -21,6 +21,11 @@ pub fn entries_law()
     in_order_law();
     split_pf_law();
 }
+
+/// Where no entry of a category is edited, no package of it has an edited entry.
+pub fn edited_in_law()
+    ensures { EditedInLaw }
+{}
 
 /// Edited entries don't keep a load from passing, where there is room for what they may name.
 pub fn entries_pass_law()

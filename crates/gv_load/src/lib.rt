@@ -47,7 +47,7 @@ mod stacks;
 pub use entry_edits::EntryEdits;
 pub use entry_paths::{is_entry, is_in_metadata};
 pub use faults::LoadFault;
-pub use laws::{eclasses_fit_law, entries_law, entries_pass_law, once_law};
+pub use laws::{eclasses_fit_law, edited_in_law, entries_law, entries_pass_law, once_law};
 pub use loading::{Loaded, Repo, load, load_counted};
 pub use members::{Bodies, Member};
 pub use replacing::{Changed, with_entries};
