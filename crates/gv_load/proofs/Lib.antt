@@ -21,6 +21,7 @@ pub mod EntryMembers
 pub mod EntryPassing
 pub mod EntryPaths
 pub mod EntryProfiles
+pub mod Exchanges
 pub mod Fitting
 pub mod FrontPassing
 pub mod Interleaving

@@ -41,18 +41,18 @@ parts_again (m ∷ ms) = ap (λ ns. m ∷ ns) (parts_again ms)
 shorter : (m n : ℕ) → suc m ≡ suc n → m ≡ n
 shorter m n e = cc
 
-pkgs_of : (ps : List Pkg) (bs : List Body) → length bs ≡ length ps → map pkg_of (together ps bs) ≡ ps
+pub pkgs_of : (ps : List Pkg) (bs : List Body) → length bs ≡ length ps → map pkg_of (together ps bs) ≡ ps
 pkgs_of [] bs e = refl
 pkgs_of (p ∷ ps) [] e = cc
 pkgs_of (p ∷ ps) (b ∷ bs) e = ap (λ qs. p ∷ qs) (pkgs_of ps bs (shorter (length bs) (length ps) e))
 
-bodies_of : (ps : List Pkg) (bs : List Body) → length bs ≡ length ps → map body_of (together ps bs) ≡ bs
+pub bodies_of : (ps : List Pkg) (bs : List Body) → length bs ≡ length ps → map body_of (together ps bs) ≡ bs
 bodies_of [] [] e = refl
 bodies_of [] (b ∷ bs) e = cc
 bodies_of (p ∷ ps) [] e = cc
 bodies_of (p ∷ ps) (b ∷ bs) e = ap (λ cs. b ∷ cs) (bodies_of ps bs (shorter (length bs) (length ps) e))
 
-members_ascend : (ps : List Pkg) (bs : List Body) → AreInPackageOrder ps → IsStrictlySortedBy member_cmp (together ps bs)
+pub members_ascend : (ps : List Pkg) (bs : List Body) → AreInPackageOrder ps → IsStrictlySortedBy member_cmp (together ps bs)
 unfolding IsStrictlySortedBy
 members_ascend [] bs a = tt
 members_ascend (p ∷ ps) [] a = tt
@@ -77,17 +77,17 @@ same_length [] = refl
 same_length (m ∷ ms) = ap (λ n. suc n) (same_length ms)
 
 -- ---- subjects that tie are edited alike
-both_equal : (a b : Ordering) → ordering_then a b ≡ Equal → (a ≡ Equal) × (b ≡ Equal)
+pub both_equal : (a b : Ordering) → ordering_then a b ≡ Equal → (a ≡ Equal) × (b ≡ Equal)
 both_equal Less b e = cc
 both_equal Equal b e = (refl, e)
 both_equal Greater b e = cc
 
-ties : (r : Ordering) → is_eq r ≡ true → r ≡ Equal
+pub ties : (r : Ordering) → is_eq r ≡ true → r ≡ Equal
 ties Less e = cc
 ties Equal e = refl
 ties Greater e = cc
 
-alike : (paths : List (List ℕ)) (s t : Subject) → subject_cmp s t ≡ Equal → is_edited paths s ≡ is_edited paths t
+pub alike : (paths : List (List ℕ)) (s t : Subject) → subject_cmp s t ≡ Equal → is_edited paths s ≡ is_edited paths t
 alike paths (Place p l) (Place q m) e = refl
 alike paths (Place p l) (Package d m w g) e = cc
 alike paths (Package c n v f) (Place q m) e = cc

@@ -10,6 +10,7 @@ pub mod EditKeys
 pub mod Entries
 pub mod EntriesPass
 pub mod EntryEdits
+pub mod Exchanged
 pub mod Faults
 pub mod Freshness
 pub mod Interleaved

@@ -9,8 +9,8 @@
 //! - `categories`, `entries`: the PFs of a category, and what is read of each.
 //! - `eclasses`, `freshness`, `packages`: the digests of eclasses, whether an entry is current, and what each PF is.
 //! - `members`, `notes`: packages in their order, and the reports of what isn't one.
-//! - `entry_paths`, `joined`, `entry_edits`, `replacing`: which paths are those of entries, texts that are found by two pieces, edited
-//!   entries, and a repository after such edits, put together of two.
+//! - `entry_paths`, `joined`, `entry_edits`, `replacing`, `exchanging`: which paths are those of entries, texts that are found by two
+//!   pieces, edited entries, and a repository after such edits, put together of two, where all else can stay in its place, in place.
 //! - `edited_reads`, `rereading`: edited entries read anew, and a repository after such edits for which only these are read.
 //! - `laws`: each path is read once, and what edits of entries change.
 //!
@@ -25,6 +25,7 @@ mod edited_reads;
 mod entries;
 mod entry_edits;
 mod entry_paths;
+mod exchanging;
 mod faults;
 mod freshness;
 mod joined;

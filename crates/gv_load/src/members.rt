@@ -1,8 +1,8 @@
 //! Packages with their expressions, in package order: O(log n) comparisons for each of n packages.
-ghost use Rattle.std.specs.Prelude.{◌≡◌, ◌∷◌, [], ◌++◌, map, IfOk, OnOk, OnErr};
+ghost use Rattle.std.specs.Prelude.{◌≡◌, ◌∷◌, [], ◌++◌, ◌<◌, length, map, slice_set, IfOk, OnOk, OnErr};
 ghost use Rattle.std.specs.Ordering.{is_lt};
 ghost use Rattle.gv_load.specs.Members.{with_all, with_member};
-ghost use Rattle.gv_load.specs.Repository.{AreInPackageOrder, body_of, in_package_order, member_cmp, member_in, member_of, members_in, pkg_of};
+ghost use Rattle.gv_load.specs.Repository.{AreInPackageOrder, body_of, in_package_order, member_cmp, member_in, member_of, members_in, pkg_cmp, pkg_of};
 
 use crate::freshness::{Kept, PfsKept};
 use gv_base::NoMemory;
@@ -22,19 +22,24 @@ pub struct Member {
     pub body: Body,
 }
 
+/// By category, name, version and PF.
+pub(crate) fn compare(one: &Pkg, two: &Pkg) -> Ordering
+    ensures { result ≡ pkg_cmp one.now two.now }
+{
+    one.category.cmp(&two.category).then_with(|| {
+        one.name.cmp(&two.name).then_with(|| {
+            one.version
+                .cmp(&two.version)
+                .then_with(|| one.pf.cmp(&two.pf))
+        })
+    })
+}
+
 impl Member {
-    // By category, name, version and PF.
     fn compare(&self, other: &Member) -> Ordering
         ensures { result ≡ member_cmp self.now other.now }
     {
-        let (one, two) = (&self.pkg, &other.pkg);
-        one.category.cmp(&two.category).then_with(|| {
-            one.name.cmp(&two.name).then_with(|| {
-                one.version
-                    .cmp(&two.version)
-                    .then_with(|| one.pf.cmp(&two.pf))
-            })
-        })
+        compare(&self.pkg, &other.pkg)
     }
 
     /// Whether it comes before the other one.
@@ -138,6 +143,14 @@ impl Bodies {
     {
         self.items.push(item)?;
         Ok(())
+    }
+
+    /// Puts a body in the place of one.
+    pub(crate) fn set(&mut self, place: usize, item: Body)
+        requires { place < length self.old }
+        ensures { self.new ≡ slice_set self.old place item }
+    {
+        self.items[place] = item;
     }
 
     /// The bodies, in order, given away.

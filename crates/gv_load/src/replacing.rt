@@ -1,15 +1,19 @@
-//! A repository after edits of entries, without reading the others anew. Packages and their bodies are moved. Costs a look-up of
-//! `entry_edits` for each package and each note, and a comparison for each package; and O(log k) comparisons for each of k edited ones.
-ghost use Rattle.std.specs.Prelude.{◌≡◌, ◌∷◌, [], ◌++◌, cond, filter, fold, length, map, List, IfOk, MatchOption, OnOk};
+//! A repository after edits of entries, without reading the others anew. Costs two look-ups of `entry_edits` for each old package and
+//! one for each note, three for each new package, and O(log k) comparisons for each of k edited ones. Where each edited package of one
+//! has the place in the order of one of the other, only these are set. Else all packages and their bodies are moved, and that costs a
+//! look-up and a comparison for each package more.
+ghost use Rattle.std.specs.Prelude.{◌≡◌, ◌∷◌, [], ◌++◌, cond, filter, fold, length, map, true, List, IfOk, MatchOption, OnOk};
 ghost use Rattle.std.specs.BTreeSet.{insert_key};
 ghost use Rattle.std.specs.declared.cmp.Ordering.TheVariants.{Less};
 ghost use Rattle.gv_load.specs.EntryEdits.{AreClassless, is_edited_pkg, is_other, together};
+ghost use Rattle.gv_load.specs.Exchanged.{are_exchangeable, edited_places};
 ghost use Rattle.gv_load.specs.Interleaved.{ahead, interleaved, is_next, left};
 ghost use Rattle.gv_load.specs.Replacing.{IsChange, are_named, edited_notes, has_edited_name, is_of_edited, replaced};
 ghost use Rattle.gv_load.specs.Repository.{AreInPackageOrder, body_of, in_package_order, member_cmp, pkg_of};
 ghost use Rattle.gv_load.specs.declared.members.Member.{Member};
 
 use crate::entry_edits::EntryEdits;
+use crate::exchanging::{are_exchangeable, edited_places, set_all};
 use crate::loading::Repo;
 use crate::members::{Member, Packages};
 use gv_base::NoMemory;
@@ -95,6 +99,48 @@ pub(crate) fn replaced(
 
 // Those of the old ones that aren't edited, and those of the new ones that are.
 fn packages_with(
+    alloc: Global,
+    old: Packages,
+    new: Packages,
+    edits: &EntryEdits,
+) -> Result<Packages, NoMemory>
+    requires old_order { AreInPackageOrder old.pkgs }
+    requires new_order { AreInPackageOrder new.pkgs }
+    ensures pkgs { IfOk result (λ packages. packages.pkgs ≡ map pkg_of (in_package_order (filter (is_other edits.now) (together old.pkgs old.bodies) ++ filter (is_of_edited edits.now) (together new.pkgs new.bodies)))) }
+    ensures bodies { IfOk result (λ packages. packages.bodies ≡ map body_of (in_package_order (filter (is_other edits.now) (together old.pkgs old.bodies) ++ filter (is_of_edited edits.now) (together new.pkgs new.bodies)))) }
+{
+    let places = edited_places(alloc, old.pkgs.items(), edits)?;
+    if are_exchangeable(&old, &new, &places, edits) {
+        let packages = exchanged(alloc, old, new, places, edits)?;
+        return Ok(packages);
+    }
+    let packages = moved(alloc, old, new, edits)?;
+    Ok(packages)
+}
+
+// The same, where each edited one takes the place of one.
+fn exchanged(
+    alloc: Global,
+    old: Packages,
+    new: Packages,
+    places: Vec<usize>,
+    edits: &EntryEdits,
+) -> Result<Packages, NoMemory>
+    requires old_order { AreInPackageOrder old.pkgs }
+    requires new_order { AreInPackageOrder new.pkgs }
+    requires places { places.items ≡ edited_places edits.now old.pkgs }
+    requires exchangeable { are_exchangeable edits.now old new ≡ true }
+    ensures pkgs { IfOk result (λ packages. packages.pkgs ≡ map pkg_of (in_package_order (filter (is_other edits.now) (together old.pkgs old.bodies) ++ filter (is_of_edited edits.now) (together new.pkgs new.bodies)))) }
+    ensures bodies { IfOk result (λ packages. packages.bodies ≡ map body_of (in_package_order (filter (is_other edits.now) (together old.pkgs old.bodies) ++ filter (is_of_edited edits.now) (together new.pkgs new.bodies)))) }
+{
+    let edited = edited_members(alloc, new, edits)?;
+    let mut packages = old;
+    set_all(&mut packages, places, edited);
+    Ok(packages)
+}
+
+// The same, where all are moved.
+fn moved(
     alloc: Global,
     old: Packages,
     new: Packages,

@@ -8,7 +8,7 @@ use Rattle.gv_load.specs.Replacing.{is_of_edited}
 use Rattle.gv_load.specs.Repository.{body_of, in_package_order, member_cmp, pkg_of}
 use Rattle.gv_load.specs.declared.members.Member.{Member}
 use Rattle.gv_load.proofs.Replaces.{put_in_order}
-use Rattle.gv_load.proofs.replacing.packages_with.Goals as goal
+use Rattle.gv_load.proofs.replacing.moved.Goals as goal
 
 pub returns-clause-pkgs : goal.returns-clause-pkgs
 returns-clause-pkgs c =
