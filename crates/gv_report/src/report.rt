@@ -135,8 +135,8 @@ impl Reports {
         }
     }
 
-    // These reports.
-    pub(crate) fn of(items: Vec<Report>) -> Self
+    /// These reports.
+    pub fn of(items: Vec<Report>) -> Self
         ensures { result ≡ items.items }
     {
         Reports { items }
