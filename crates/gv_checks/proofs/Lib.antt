@@ -14,6 +14,7 @@ pub mod LowerLemmas
 pub mod SharedLemmas
 pub mod OneLemmas
 pub mod KeyLemmas
+pub mod LastingLemmas
 pub mod ViewLemmas
 pub mod MentionedLemmas
 pub mod MarkLemmas

@@ -35,7 +35,7 @@ equal_bytes a b h = (bytes_eq-Decides b a).1 (sym ((bytes_eq-Decides a b).0 (sym
 and_true : (a b : Bool) → a ≡ true → b ≡ true → (a && b) ≡ true
 and_true a b e f = rw (e, f) refl
 
-of_name : (p : Pkg) (c n v f : List ℕ) → eq_by_cmp subject_cmp (subject_of p) (Package c n v f) ≡ true → is_pkg_of c n p ≡ true
+pub of_name : (p : Pkg) (c n v f : List ℕ) → eq_by_cmp subject_cmp (subject_of p) (Package c n v f) ≡ true → is_pkg_of c n p ≡ true
 of_name p c n v f h =
     let first = both_equal (byte_cmp p.category c) (ordering_then (byte_cmp p.name n) (ordering_then (compare p.version v) (byte_cmp p.pf f))) h in
     let second = both_equal (byte_cmp p.name n) (ordering_then (compare p.version v) (byte_cmp p.pf f)) first.1 in

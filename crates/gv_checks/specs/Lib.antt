@@ -7,6 +7,7 @@ pub mod Classes
 pub mod Context
 pub mod Due
 pub mod Keys
+pub mod Lasting
 pub mod Limits
 pub mod Mentioned
 pub mod Named

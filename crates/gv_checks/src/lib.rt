@@ -29,6 +29,7 @@ mod finding;
 mod judging;
 mod keys;
 mod known;
+mod lasting;
 mod laws;
 mod lowering;
 mod mentioned;

@@ -1,9 +1,9 @@
 //! The reports of a repository in which entries were edited, from those of before.
 //!
-//! The packages are indexed once, and what of each rests on edited entries is found as `touched` says. A report of before costs
-//! what `stale` says, and a package that is edited, or has an atom of the name of an edited entry, what `afresh` and `due` say; the
-//! others cost no more. What each profile shows is asked of all packages where more than one in 32 is so, and else of those that are
-//! asked about. Putting the reports in order costs what `ordered` does.
+//! What of each package rests on edited entries is found as `touched` says. The reports of before cost what `lasting` says, and a
+//! package that is edited, or has an atom of the name of an edited entry, what `afresh` and `due` say; the others cost no more. What
+//! each profile shows is asked of all packages where more than one in 32 is so, and else of those that are asked about. What is told
+//! anew is put among the reports of before as `merged` does.
 ghost use Rattle.std.specs.Prelude.{◌≡◌, ◌++◌, [], filter, flat_map, length, map, IfErr, IfOk};
 ghost use Rattle.std.specs.List.{AllByRecursion};
 ghost use Rattle.gv_report.specs.Distinct.{ordered};
@@ -24,25 +24,25 @@ use crate::JudgeFault;
 use crate::afresh::add_anew;
 use crate::due::judge_due;
 use crate::judging::Progress;
+use crate::lasting::lasting;
 use crate::mentioned::Mentioned;
 use crate::plainly::noted;
-use crate::stale::lasting;
 use crate::touched::{Touched, all_touched};
 use crate::used::Used;
 use crate::views::{Asked, ProfileView, all_views};
 use gv_base::{Ledger, NoMemory, Steps};
 use gv_cert::Known;
 use gv_load::{EntryEdits, Repo};
-use gv_report::{Options, Reports, ordered, renewed_law};
+use gv_report::{Options, Reports, merged, renewed_law, selected_law};
 use gv_usestate::RuledFlags;
 use gv_visible::PkgIndex;
 use std::alloc::Global;
 
 /// The reports of a scan of a repository in which the entries at these paths were edited, and nothing else, from those of a scan
-/// of before, and from the names that its packages mention. Its notes need to hold only what is told of edited entries. Only queries
-/// of packages that are edited, or of classes with an atom of the name of an edited entry, are lowered and solved, each at most once;
-/// the first that is refused ends it, and it is the first of all that is refused. Packages are numbered by 32 bits, and more of them
-/// find no memory.
+/// of before, which are in order, and from the names that its packages mention. Its notes need to hold only what is told of edited
+/// entries. Only queries of packages that are edited, or of classes with an atom of the name of an edited entry, are lowered and
+/// solved, each at most once; the first that is refused ends it, and it is the first of all that is refused. Packages are numbered
+/// by 32 bits, and more of them find no memory.
 pub fn renew<L: Ledger>(
     alloc: Global,
     repo: &Repo,
@@ -55,6 +55,7 @@ pub fn renew<L: Ledger>(
     requires order { AreInPackageOrder repo.now.pkgs }
     requires bodies { length repo.now.bodies ≡ length repo.now.pkgs }
     requires mentioned { mentioned.now ≡ are_mentioned repo.now.bodies }
+    requires before { ordered before ≡ before }
     ensures renewed { (whole : Repo) → IsPartOf edits.now repo.now whole → AreOfBefore options.now edits.now whole before → IfOk result (IsRenewed options.now edits.now whole steps.old steps.new) }
     ensures cause { (whole : Repo) → IsPartOf edits.now repo.now whole → AreOfBefore options.now edits.now whole before → IfErr result (Refuses options.now.budget [] (queries options.now whole)) }
 {
@@ -74,6 +75,7 @@ fn renew_here<L: Ledger>(
 ) -> Result<Reports, JudgeFault>
     requires bodies { length repo.now.bodies ≡ length repo.now.pkgs }
     requires mentioned { mentioned.now ≡ are_mentioned repo.now.bodies }
+    requires before { ordered before ≡ before }
     ensures renewed { IfOk result (IsRenewedHere options.now edits.now repo.now before steps.old steps.new) }
     ensures cause { IfErr result (Refuses options.now.budget [] (filter (is_due edits.now) (queries options.now repo.now))) }
 {
@@ -99,6 +101,7 @@ fn renew_over<L: Ledger>(
     requires mentioned { mentioned.now ≡ are_mentioned repo.now.bodies }
     requires index { index.now ≡ repo.now.pkgs }
     requires ruled { ruled.now ≡ repo.now.profiles }
+    requires before { ordered before ≡ before }
     ensures renewed { IfOk result (IsRenewedHere options.now edits.now repo.now before steps.old steps.new) }
     ensures cause { IfErr result (Refuses options.now.budget [] (filter (is_due edits.now) (queries options.now repo.now))) }
 {
@@ -122,6 +125,7 @@ fn renew_indexed<'a, L: Ledger>(
     requires mentioned { mentioned.now ≡ are_mentioned repo.now.bodies }
     requires index { index.now ≡ repo.now.pkgs }
     requires ruled { ruled.now ≡ repo.now.profiles }
+    requires before { ordered before ≡ before }
     ensures renewed { IfOk result (IsRenewedHere options.now edits.now repo.now before steps.old steps.new) }
     ensures cause { IfErr result (Refuses options.now.budget [] (filter (is_due edits.now) (queries options.now repo.now))) }
 {
@@ -211,15 +215,15 @@ fn answered<L: Ledger>(
 // The reports that last, and those told anew, in order.
 fn renewed(
     alloc: Global,
-    mut reports: Reports,
-    told: Reports,
+    reports: Reports,
+    mut told: Reports,
     answered: Reports,
 ) -> Result<Reports, NoMemory>
+    requires { ordered reports ≡ reports }
     ensures { IfOk result (λ renewed. renewed ≡ ordered (reports ++ (told ++ answered))) }
 {
-    reports.append(told)?;
-    reports.append(answered)?;
-    ordered(alloc, reports)
+    told.append(answered)?;
+    merged(alloc, reports, told)
 }
 
 #[tactic(auto, using(crate::proofs::RenewLemmas::due_are, crate::proofs::TouchedLemmas::pkgs_are))]
@@ -240,9 +244,11 @@ fn renew_touched<L: Ledger>(
     requires ruled { ruled.now ≡ repo.now.profiles }
     requires views { views.now ≡ map (seen repo.now.pkgs) repo.now.profiles }
     requires touched { AreTouched edits.now repo.now.pkgs (members repo.now) touched.now }
+    requires before { ordered before ≡ before }
     ensures renewed { IfOk result (IsRenewedHere options.now edits.now repo.now before steps.old steps.new) }
     ensures cause { IfErr result (Refuses options.now.budget [] (filter (is_due edits.now) (queries options.now repo.now))) }
 {
+    selected_law();
     let kept = lasting(alloc, index, edits, touched, before)?;
     let told = anew(alloc, repo, index, views, options, touched)?;
     let answered = match answered(alloc, repo, index, ruled, views, options, touched, steps) {

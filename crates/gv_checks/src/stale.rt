@@ -1,44 +1,23 @@
 //! Which reports of before are stale.
 //!
 //! A report costs a look-up of its package among the edited entries; one that rests on the atoms of a class also one of its package by hash.
-ghost use Rattle.std.specs.Prelude.{◌≡◌, filter, map, IfOk};
+ghost use Rattle.std.specs.Prelude.{◌≡◌, map};
 ghost use Rattle.std.specs.List.{list_any};
 ghost use Rattle.std.specs.Ordering.{eq_by_cmp};
 ghost use Rattle.gv_report.specs.Order.{subject_cmp};
 ghost use Rattle.gv_report.specs.declared.report.Subject.TheVariants.{Package};
 ghost use Rattle.gv_checks.specs.Renewal.{rests_on_atoms};
 ghost use Rattle.gv_checks.specs.RepoReports.{subject_of};
-ghost use Rattle.gv_checks.specs.Touched.{is_lasting_by, is_stale_among, is_stale_at, is_stale_by, is_stale_in, is_stale_place, pkg_at};
+ghost use Rattle.gv_checks.specs.Touched.{is_stale_among, is_stale_at, is_stale_by, is_stale_in, is_stale_place, pkg_at};
 
 use crate::touched::Touched;
-use gv_base::{NoMemory, Text};
+use gv_base::Text;
 use gv_facts::{Class, Pkg};
 use gv_load::EntryEdits;
-use gv_report::{Keyword, Report, Reports, Subject};
+use gv_report::{Keyword, Report, Subject};
 use gv_version::{Version, compare};
 use gv_visible::PkgIndex;
-use std::alloc::Global;
 use std::cmp::Ordering;
-
-/// The reports of before that aren't stale, in their order.
-pub(crate) fn lasting(
-    alloc: Global,
-    index: &PkgIndex<'_>,
-    edits: &EntryEdits,
-    touched: &[Touched<'_>],
-    before: Reports,
-) -> Result<Reports, NoMemory>
-    requires { index.now ≡ map pkg_at touched.now }
-    ensures { IfOk result (λ reports. reports ≡ filter (is_lasting_by edits.now touched.now) before) }
-{
-    let mut reports = Reports::new(alloc);
-    for report in before.into_items() {
-        if !is_stale(index, edits, touched, &report) {
-            reports.add(report)?;
-        }
-    }
-    Ok(reports)
-}
 
 fn rests_on_atoms(keyword: Keyword) -> bool
     ensures { result ≡ rests_on_atoms keyword }
@@ -154,7 +133,8 @@ fn is_stale_in(index: &PkgIndex<'_>, touched: &[Touched<'_>], report: &Report) -
     }
 }
 
-fn is_stale(
+/// Whether the report rests on edited entries.
+pub(crate) fn is_stale(
     index: &PkgIndex<'_>,
     edits: &EntryEdits,
     touched: &[Touched<'_>],

@@ -1,6 +1,6 @@
 //! What each profile shows of the packages and says of flags.
 //!
-//! A view costs the states of flags in its profile. Where many packages are asked about, it costs besides a test of each package, and
+//! A view of a profile that is asked about few packages costs O(1). Where many are, it costs the sets of its flags and a test of each package, and
 //! each of its answers O(1); else each answer is a test of the package that is asked about.
 ghost use Rattle.std.specs.Prelude.{◌≡◌, map, Some, slice_get, IfOk, IfSome};
 ghost use Rattle.gv_facts.specs.Visible.{judged};
@@ -52,7 +52,7 @@ impl<'a> ProfileView<'a> {
     ) -> Result<ProfileView<'a>, NoMemory>
         ensures { IfOk result (λ view. view ≡ seen index.now profile.now) }
     {
-        let states = ProfileStates::new(alloc, profile)?;
+        let states = states(alloc, profile, asked)?;
         let shown = shown(alloc, index, profile, asked)?;
         Ok(ProfileView {
             index,
@@ -101,6 +101,20 @@ impl<'a> ProfileView<'a> {
             Some(shown) => shown.judged(number),
             None => judged(pkg, self.profile),
         }
+    }
+}
+
+// The states of flags in the profile, by sets that are made of it where it is asked about many packages.
+fn states<'a>(
+    alloc: Global,
+    profile: &'a Profile,
+    asked: Asked,
+) -> Result<ProfileStates<'a>, NoMemory>
+    ensures { IfOk result (λ states. states ≡ profile.now) }
+{
+    match asked {
+        Asked::Few => Ok(ProfileStates::of(profile)),
+        Asked::Many => ProfileStates::new(alloc, profile),
     }
 }
 

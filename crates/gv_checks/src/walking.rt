@@ -1,6 +1,6 @@
 //! All queries of a repository, in order: by package, by profile line, by class.
 //!
-//! The packages are indexed once, and what each profile shows of them is asked once. Then a package costs O(profiles) and
+//! What each profile shows of the packages is asked once. Then a package costs O(profiles) and
 //! finding what its classes ask about, and each context in which it is judged the keys of its queries. What is lowered in one
 //! context of a package is shared by the others. A package's reports that need no query are made just before its queries, since both
 //! look up the same names.

@@ -1,6 +1,6 @@
 //! A repository judged: its reports, and the certificates of its queries.
 //!
-//! The packages are indexed once, and the view of each profile is made once. Besides that `judge` costs what `plain` over these
+//! The view of each profile is made once. Besides that `judge` costs what `plain` over these
 //! views, the queries, and putting the reports in order cost.
 ghost use Rattle.std.specs.Prelude.{◌≡◌};
 ghost use Rattle.gv_checks.specs.Answered.{JudgesAll};

@@ -16,10 +16,14 @@ use Rattle.gv_load.specs.Look.{look_of}
 use Rattle.gv_load.specs.Repository.{AreInPackageOrder}
 use Rattle.gv_load.specs.declared.loading.Loaded.{Loaded}
 use Rattle.gv_load.specs.declared.loading.Repo.{Repo}
+use Rattle.gv_report.specs.Distinct.{ordered}
+use Rattle.gv_report.specs.Selecting.{selected}
 use Rattle.gv_report.specs.declared.options.Options.{Options}
+use Rattle.gv_report.specs.declared.report.Report.{Report}
 use Rattle.gv_checks.specs.Mentioned.{are_kept, are_mentioned, member_numbers}
 use Rattle.gv_checks.specs.Queries.{queries}
 use Rattle.gv_checks.specs.Renewal.{AreOfBefore, is_due}
+use Rattle.gv_checks.specs.RepoReports.{reports as all_reports, scan_reports}
 use Rattle.gv_session.specs.Due.{due, is_small, new_paths}
 use Rattle.gv_session.specs.Judging.{IsAgain, IsAll, IsAnew, IsJudgedFor, IsRefusedFor, Outset}
 use Rattle.gv_session.specs.Session.{IsFound, IsLast, IsLoaded, JudgeCause}
@@ -32,6 +36,10 @@ use Rattle.gv_session.proofs.EditLemmas.{same_elsewhere, take_all}
 whatever : (told : Option FileMap) {X : Type 0} → X → IfSome told (λ files. X)
 whatever None x = tt
 whatever (Some files) x = x
+
+-- ---- the reports that are kept are in order
+pub in_order : ((given : List Report) → ordered (ordered given) ≡ ordered given) → (options : Options) (repo : Repo) (kept : List Report) → kept ≡ scan_reports options repo → ordered kept ≡ kept
+in_order again options repo kept is = ap ordered is ∙ again (filter (selected options) (all_reports repo)) ∙ sym is
 
 -- ---- no edit came behind the last report
 

@@ -6,6 +6,7 @@ ghost use Rattle.std.specs.Prelude.{◌≡◌, ◌<◌, ◌≤◌, Some, length,
 ghost use Rattle.gv_load.specs.EntryEdits.{IsPartOf};
 ghost use Rattle.gv_load.specs.Repository.{AreInPackageOrder};
 ghost use Rattle.gv_load.specs.declared.loading.Repo.{Repo};
+ghost use Rattle.gv_report.specs.Distinct.{ordered};
 ghost use Rattle.gv_checks.specs.Mentioned.{are_kept};
 ghost use Rattle.gv_checks.specs.Renewal.{AreOfBefore};
 ghost use Rattle.gv_session.specs.Due.{new_paths};
@@ -22,7 +23,7 @@ use gv_cert::Known;
 use gv_checks::{Judged, Mentioned, judge, renew};
 use gv_edits::Edits;
 use gv_load::{Changed, EntryEdits, Loaded, Repo, Reread, entries_law, with_entries};
-use gv_report::{Options, Reports};
+use gv_report::{Options, Reports, ordered_law};
 use std::alloc::Global;
 
 /// The reports of the tree's files with the edits, and what they are told of. Where no edit came behind the last report they are
@@ -103,6 +104,7 @@ fn judge_small<T: Tree, L: Ledger>(
     ensures later { T.faults tree.old ≤ T.faults tree.new }
     ensures calm { OnOk result (T.faults tree.new ≡ T.faults tree.old) }
 {
+    ordered_law();
     let Last {
         seen,
         repo: old,
@@ -153,6 +155,7 @@ fn judge_loaded<T: Tree, L: Ledger>(
     ensures calm { OnOk result (T.faults tree.new ≡ T.faults tree.old) }
 {
     entries_law();
+    ordered_law();
     let Loaded { repo, found } = match load_edited(alloc, tree, edits) {
         Ok(loaded) => loaded,
         Err(fault) => return Err(load_fault(fault)),
@@ -223,6 +226,7 @@ fn judge_again<L: Ledger>(
     requires bodies { length repo.bodies ≡ length repo.pkgs }
     requires order { AreInPackageOrder repo.pkgs }
     requires kept { kept ≡ are_kept entries.now repo }
+    requires before { ordered before ≡ before }
     ensures judged { (whole : Repo) → IsPartOf entries.now repo whole → AreOfBefore options.now entries.now whole before
         → IfOk result (IsAgain options.now entries.now repo whole found edits.now steps.old steps.new) }
     ensures cause { (whole : Repo) → IsPartOf entries.now repo whole → AreOfBefore options.now entries.now whole before → IfErr result (JudgeCause options.now whole) }

@@ -1,5 +1,14 @@
+use Rattle.std.proofs.Common.{ap, filter, sym, ◌∙◌}
+use Rattle.gv_report.specs.Distinct.{ordered}
+use Rattle.gv_checks.specs.Touched.{is_lasting_by}
 use Rattle.gv_checks.proofs.RenewLemmas.{here}
 use Rattle.gv_checks.proofs.renewing.renew_touched.Goals as goal
+
+pub renewed-requires : goal.renewed-requires
+renewed-requires g c =
+    let test = is_lasting_by c.args.edits.now c.args.touched.now in
+    let kept = c.in_ok-kept.ensures in
+    ap ordered kept ∙ sym (c.selected_law.ensures test c.args.before) ∙ ap (filter test) c.requires.before ∙ sym kept
 
 pub returns-clause-renewed : goal.returns-clause-renewed
 returns-clause-renewed g c =

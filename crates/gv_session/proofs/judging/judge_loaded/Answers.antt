@@ -4,8 +4,11 @@ use Rattle.std.proofs.lemmas.Result.{IfOk-weaker}
 use Rattle.gv_load.specs.Replacing.{IsChange}
 use Rattle.gv_load.specs.declared.replacing.Changed.TheVariants.{Part}
 use Rattle.gv_session.specs.Judging.{IsJudgedFor, Outset, outset}
-use Rattle.gv_session.proofs.JudgingLemmas.{IsWhole, all_other, refused_again, renewed, same_kept, whole_loaded}
+use Rattle.gv_session.proofs.JudgingLemmas.{IsWhole, all_other, in_order, refused_again, renewed, same_kept, whole_loaded}
 use Rattle.gv_session.proofs.judging.judge_loaded.Goals as goal
+
+pub judge_again-requires-clause-before : goal.judge_again-requires-clause-before
+judge_again-requires-clause-before g c = in_order c.ordered_law.ensures.again c.args.options.now c.requires.last.repo c.args.last.reports c.requires.last.reports
 
 pub judge_again-requires-clause-kept : goal.judge_again-requires-clause-kept
 judge_again-requires-clause-kept g c =

@@ -4,7 +4,7 @@ use Rattle.gv_load.specs.Rereading.{IsReread, IsRereadOf}
 use Rattle.gv_edits.specs.Edits.{edited_told}
 use Rattle.gv_checks.specs.Mentioned.{are_kept}
 use Rattle.gv_session.specs.Judging.{Outset, outset}
-use Rattle.gv_session.proofs.JudgingLemmas.{IsWhole, entries_are, refused_again, renewed, same_kept, whole_reread}
+use Rattle.gv_session.proofs.JudgingLemmas.{IsWhole, entries_are, in_order, refused_again, renewed, same_kept, whole_reread}
 use Rattle.gv_session.proofs.judging.judge_small.Goals as goal
 
 pub reread_edited-requires-clause-entries : goal.reread_edited-requires-clause-entries
@@ -18,6 +18,9 @@ with-requires-clause-kept g c =
     let same : c.in-Ok-Unclear.repo ≡ c.args.last.repo =
     subst (IsReread c.args.entries.now c.args.last.repo c.args.last.found (edited_told (g.T.Tree.files c.args.tree.now) c.args.edits.now)) c.in-Ok-Unclear.field-0-is c.in-Ok-Unclear.ensures.reread in
     c.in_ok-kept.ensures ∙ ap (are_kept c.args.entries.now) (sym same)
+
+pub judge_again-requires-clause-before : goal.judge_again-requires-clause-before
+judge_again-requires-clause-before g c = in_order c.ordered_law.ensures.again c.args.options.now c.requires.last.repo c.args.last.reports c.requires.last.reports
 
 pub judge_again-requires-clause-kept : goal.judge_again-requires-clause-kept
 judge_again-requires-clause-kept g c =
