@@ -172,7 +172,7 @@ fn has_states_in<R: Abort>(
     assert_eq!(rt; want.split_once(' '), Some((stable, testing)), "{line}");
 }
 
-// So they are by sets that are made of the profile, and without them.
+// So they are by sets that are made of the profiles, and without them.
 fn has_states_by_kind<R: Abort>(
     rt: &R,
     alloc: Global,
@@ -183,13 +183,16 @@ fn has_states_by_kind<R: Abort>(
     line: &str,
 ) {
     let ruled = RuledFlags::new(alloc, profiles.items()).expect(rt, "memory");
+    let asked = RuledFlags::of(profiles.items());
     let Some(profile) = first(profiles.items()) else {
         return rt.abort();
     };
     let states = ProfileStates::new(alloc, profile).expect(rt, "memory");
     has_states_in(rt, &ruled, &states, pkg, flag, want, line);
+    has_states_in(rt, &asked, &states, pkg, flag, want, line);
     let plain = ProfileStates::of(profile);
     has_states_in(rt, &ruled, &plain, pkg, flag, want, line);
+    has_states_in(rt, &asked, &plain, pkg, flag, want, line);
 }
 
 // The states of the flag in this profile are the ones that are wanted.
@@ -329,6 +332,9 @@ fn a_flag_of_iuse_that_no_rule_names_is_plain(rt: HostRuntime) {
             .expect(&rt, "memory");
         let ruled = RuledFlags::new(alloc, profiles.items()).expect(&rt, "memory");
         let kind = kind_text(ruled.kind(&pkg, flag.as_bytes()));
+        assert!(&rt; kind == want, "{line}");
+        let asked = RuledFlags::of(profiles.items());
+        let kind = kind_text(asked.kind(&pkg, flag.as_bytes()));
         assert!(&rt; kind == want, "{line}");
     }
 }

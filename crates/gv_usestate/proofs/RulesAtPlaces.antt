@@ -1,15 +1,17 @@
 -- The rules at the places of those that name a flag do what all rules do.
-use Rattle.std.proofs.Common.{◌≡◌, ℕ, Bool, true, false, ◌&&◌, List, [], ◌∷◌, Some, refl, sym, ap, map, ◌∙◌, cond}
+use Rattle.std.proofs.Common.{◌≡◌, ℕ, ◌+◌, Bool, true, false, ◌&&◌, ◌||◌, not, nat_eq, List, [], ◌∷◌, length, arith, Some, refl, sym, ap, map, ◌∙◌, cond}
 use Rattle.std.specs.Prelude.{Option, filter, fold, if◌then◌else◌, slice_get}
+use Rattle.std.specs.List.{list_any}
 use Rattle.std.specs.Option.{option_map_or}
 use Rattle.std.specs.Str.{bytes_eq}
+use Rattle.std.proofs.lemmas.Bool.{ne_eqb}
 use Rattle.std.proofs.lemmas.List.Folds.{fold-map}
 use Rattle.gv_facts.specs.declared.kinds.Level.{Level}
 use Rattle.gv_facts.specs.declared.pkg.Pkg.{Pkg}
 use Rattle.gv_facts.specs.declared.profile.Profile.{Profile}
 use Rattle.gv_facts.specs.declared.rules.Effect.{Effect}
 use Rattle.gv_facts.specs.declared.rules.Rule.{Rule}
-use Rattle.gv_facts.specs.Places.{names_flag}
+use Rattle.gv_facts.specs.Places.{names_flag, places_from}
 use Rattle.gv_facts.specs.States.{applies, is_restricted, is_same}
 use Rattle.gv_usestate.specs.RulesInTurn.{behind, behind_at}
 
@@ -46,3 +48,13 @@ module _ (effect : Effect) (p : Pkg) (profile : Profile) (level : Level) (flag :
       ∙ ap (fold found on) items
       ∙ fold-map found Some on (filter (names_flag flag) rules)
       ∙ of_flag rules on
+
+-- there is a place where there is an item
+pub any_place : {A : Type 0} (test : A → Bool) (n : ℕ) (xs : List A) → not (nat_eq (length (places_from n test xs)) 0) ≡ list_any test xs
+any_place test n [] = refl
+any_place test n (x ∷ xs) = by (test x) (any_place test (n + 1) xs)
+  where
+    by : (b : Bool) → not (nat_eq (length (places_from (n + 1) test xs)) 0) ≡ list_any test xs
+        → not (nat_eq (length (if b then n ∷ places_from (n + 1) test xs else places_from (n + 1) test xs)) 0) ≡ (b || list_any test xs)
+    by true h = ap not (ne_eqb (length (n ∷ places_from (n + 1) test xs)) 0 (λ e. omega arith))
+    by false h = h
