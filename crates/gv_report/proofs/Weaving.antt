@@ -26,12 +26,12 @@ use Rattle.gv_report.proofs.StrictLaw.{all_stay}
 
 -- What ascends is parted by a report.
 
-all_at : (p : Report → Bool) (ks : List Report) (j : ℕ) (d : Report) → list_all p ks ≡ true → j < length ks → p (slice_index_or ks j d) ≡ true
+pub all_at : (p : Report → Bool) (ks : List Report) (j : ℕ) (d : Report) → list_all p ks ≡ true → j < length ks → p (slice_index_or ks j d) ≡ true
 all_at p [] j d all lt = absurd (omega (arith, lt))
 all_at p (k ∷ ks) zero d all lt = (and_parts (p k) (list_all p ks) all).0
 all_at p (k ∷ ks) (suc j) d all lt = all_at p ks j d (and_parts (p k) (list_all p ks) all).1 (omega (arith, lt))
 
-in_front : (r k s : Report) → not (is_before s k) ≡ true → is_before s r ≡ true → is_before k r ≡ true
+pub in_front : (r k s : Report) → not (is_before s k) ≡ true → is_before s r ≡ true → is_before k r ≡ true
 in_front r k s behind e = by (is_before k r) refl
   where
     by : (b : Bool) → is_before k r ≡ b → is_before k r ≡ true

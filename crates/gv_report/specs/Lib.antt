@@ -1,6 +1,7 @@
 pub mod Distinct
 pub mod Emitted
 pub mod Emitter
+pub mod Exchanging
 pub mod Json
 pub mod JsonValue
 pub mod Keyword

@@ -11,7 +11,7 @@ use std::alloc::Global;
 use std::collections::VecDeque;
 
 /// Reports in order with others put among them, in order, and equal ones once.
-pub fn merged(alloc: Global, kept: Reports, fresh: Reports) -> Result<Reports, NoMemory>
+pub(crate) fn merged(alloc: Global, kept: Reports, fresh: Reports) -> Result<Reports, NoMemory>
     requires { ordered kept ≡ kept }
     ensures { IfOk result (λ merged. merged ≡ ordered (kept ++ fresh)) }
 {
