@@ -1,129 +1,55 @@
--- Reports of one category stand together, and where none of it is edited and nothing of it is touched none of them is stale.
-use Rattle.std.proofs.Common.{◌≡◌, ℕ, zero, suc, ◌+◌, ◌<◌, ◌≤◌, Bool, true, false, not, ◌&&◌, ◌||◌, cond, List, [], ◌∷◌, ◌++◌, length, drop, take, map, filter, Option, None, Some, arith, refl, sym, ap, subst, ◌∙◌, append_assoc}
-use Rattle.std.specs.Prelude.{slice_index_or}
-use Rattle.std.specs.List.{AllByRecursion, AllWithin, list_all}
-use Rattle.std.specs.List.Sorted.{IsPartitionedBy}
-use Rattle.std.specs.Cmp.Lexicographic.{nat_list_cmp_total}
+-- Where nothing of a category is edited or touched none of its reports is stale, nor is one of a package of whose name none is.
+use Rattle.std.proofs.Common.{◌≡◌, ℕ, Bool, true, false, ◌&&◌, ◌||◌, cond, List, [], ◌∷◌, map, filter, Option, None, Some, refl, sym, ap, ◌∙◌}
+use Rattle.std.specs.Prelude.{slice_get}
+use Rattle.std.specs.List.{AllByRecursion, list_any}
 use Rattle.std.specs.Option.{option_map_or}
-use Rattle.std.specs.Ordering.{eq_by_cmp, is_lt, ordering_reverse, ordering_then}
+use Rattle.std.specs.Ordering.{eq_by_cmp, is_eq, ordering_then}
 use Rattle.std.specs.Str.{bytes_eq}
-use Rattle.std.specs.declared.cmp.Ordering.{Ordering}
-use Rattle.std.specs.declared.cmp.Ordering.TheVariants.{Less, Equal, Greater}
-use Rattle.std.proofs.lemmas.Bool.{and_parts, or_parts, true≢false}
-use Rattle.std.proofs.lemmas.List.Elements.{filter-append}
+use Rattle.std.proofs.lemmas.Bool.{false≢true, or_parts, true≢false}
 use Rattle.std.proofs.lemmas.Map.Lookups.{exact_bytes}
-use Rattle.std.proofs.lemmas.Slice.Eq.{bytes_eq-Decides}
 use Rattle.gv_base.specs.Order.{byte_cmp, has_text}
 use Rattle.gv_version.specs.Order.{compare}
+use Rattle.gv_facts.specs.Places.{is_pkg_of, places_of}
 use Rattle.gv_facts.specs.declared.kinds.Class.{Class}
 use Rattle.gv_facts.specs.declared.kinds.Class.TheVariants.{Required, Depend, Bdepend, Rdepend, Pdepend, Idepend}
-use Rattle.gv_report.specs.Distinct.{is_before}
-use Rattle.gv_report.specs.Order.{kind_cmp, report_cmp, subject_cmp}
-use Rattle.gv_report.specs.OrderTotal.{report_total}
-use Rattle.gv_report.specs.Sorting.{AreAscending}
+use Rattle.gv_facts.specs.declared.pkg.Pkg.{Pkg}
+use Rattle.gv_report.specs.Order.{subject_cmp}
 use Rattle.gv_report.specs.declared.report.Report.{Report}
 use Rattle.gv_report.specs.declared.report.Subject.{Subject}
 use Rattle.gv_report.specs.declared.report.Subject.TheVariants.{Package, Place}
 use Rattle.gv_load.specs.EntryEdits.{EditedInLaw, is_edited, is_edited_in}
-use Rattle.gv_checks.specs.Lasting.{are_together, category_at, is_near, is_of}
+use Rattle.gv_checks.specs.Lasting.{are_together, category_at, is_near, is_of_name, may_be_stale, touches_place, NoneStale}
 use Rattle.gv_checks.specs.Renewal.{rests_on_atoms}
 use Rattle.gv_checks.specs.RepoReports.{subject_of}
-use Rattle.gv_checks.specs.Touched.{is_lasting_by, is_stale_among, is_stale_at, mentions_at, touches}
+use Rattle.gv_checks.specs.Touched.{is_stale_among, is_stale_at, is_stale_by, mentions_at, pkg_at, touches}
 use Rattle.gv_checks.specs.declared.touched.Touched.{Touched}
-use Rattle.gv_checks.proofs.StaleLemmas.{of_name, place_stale}
+use Rattle.gv_checks.proofs.PlainLemmas.{any_map, items_from}
+use Rattle.gv_checks.proofs.RunLemmas.{is_equal, same}
+use Rattle.gv_checks.proofs.StaleLemmas.{both_equal, of_name, place_stale, places_map}
 
--- ---- what stands between reports of one category is of it
-not_true : (b : Bool) → not b ≡ true → b ≡ false
-not_true true h = sym h
-not_true false h = refl
-
-both : (a b : Bool) → a ≡ true → b ≡ true → (a && b) ≡ true
-both true b e f = f
-both false b e f = e
-
-first_not : (a b : Ordering) → is_lt (ordering_then a b) ≡ false → is_lt a ≡ false
-first_not Less b e = e
-first_not Equal b e = refl
-first_not Greater b e = refl
-
-same : (c d : List ℕ) → bytes_eq c d ≡ true → c ≡ d
-same c d e = (bytes_eq-Decides c d).0 e
-
-neither : (c d : List ℕ) → is_lt (byte_cmp c d) ≡ false → is_lt (byte_cmp d c) ≡ false → bytes_eq c d ≡ true
-neither c d e f = by (byte_cmp c d) refl
-  where
-    by : (r : Ordering) → byte_cmp c d ≡ r → bytes_eq c d ≡ true
-    by Less is = absurd (true≢false (sym (ap is_lt is) ∙ e))
-    by Equal is = (bytes_eq-Decides c d).1 (exact_bytes c d is)
-    by Greater is = absurd (true≢false (sym (ap is_lt (nat_list_cmp_total.antisymm d c ∙ ap ordering_reverse is)) ∙ f))
-
-between : (s t u : Subject) → is_lt (subject_cmp t s) ≡ false → is_lt (subject_cmp u t) ≡ false → are_together s u ≡ true → are_together s t ≡ true
-between (Place p l) (Place q m) u a b e = refl
-between (Place p l) (Package d m w g) (Place r k) a b e = sym b
-between (Place p l) (Package d m w g) (Package x y z h) a b e = e
-between (Package c n v f) (Place q m) u a b e = sym a
-between (Package c n v f) (Package d m w g) (Place r k) a b e = absurd (true≢false (sym e))
-between (Package c n v f) (Package d m w g) (Package x y z h) a b e =
-    let below = first_not (byte_cmp d c) (ordering_then (byte_cmp m n) (ordering_then (compare w v) (byte_cmp g f))) a in
-    let above = first_not (byte_cmp x d) (ordering_then (byte_cmp y m) (ordering_then (compare z w) (byte_cmp h g))) b in
-    neither c d (ap (λ o. is_lt (byte_cmp o d)) (same c x e) ∙ above) below
-
-not_before : (r s : Report) → is_before r s ≡ false → is_lt (subject_cmp r.subject s.subject) ≡ false
-not_before r s e = first_not (subject_cmp r.subject s.subject) (kind_cmp r s) e
-
-itself : (r : Report) → is_before r r ≡ false
-itself r = by (report_cmp r r) refl
-  where
-    by : (o : Ordering) → report_cmp r r ≡ o → is_lt (report_cmp r r) ≡ false
-    by Less is = absurd (true≢false (sym (ap is_lt is) ∙ ap is_lt (report_total.antisymm r r ∙ ap ordering_reverse is)))
-    by Equal is = ap is_lt is
-    by Greater is = ap is_lt is
-
-all_at : (p : Report → Bool) (xs : List Report) (i : ℕ) (d : Report) → list_all p xs ≡ true → i < length xs → p (slice_index_or xs i d) ≡ true
-all_at p [] i d all lt = absurd (omega (arith, lt))
-all_at p (x ∷ xs) zero d all lt = (and_parts (p x) (list_all p xs) all).0
-all_at p (x ∷ xs) (suc i) d all lt = all_at p xs i d (and_parts (p x) (list_all p xs) all).1 (omega (arith, lt))
-
-parted_behind : (f : Report) (xs : List Report) → AreAscending is_before xs → list_all (λ r. not (is_before r f)) xs ≡ true → IsPartitionedBy (is_of f.subject) xs
-parted_behind f [] up far i j d le lt e = absurd (omega (arith, lt))
-parted_behind f (x ∷ xs) up far zero zero d le lt e = e
-parted_behind f (x ∷ xs) up far zero (suc j) d le lt e =
-    let last = slice_index_or xs j d in
-    let first = not_true (is_before x f) (and_parts (not (is_before x f)) (list_all (λ r. not (is_before r f)) xs) far).0 in
-    let later = not_true (is_before last x) (all_at (λ r. not (is_before r x)) xs j d up.0 (omega (arith, lt))) in
-    between f.subject x.subject last.subject (not_before x f first) (not_before last x later) e
-parted_behind f (x ∷ xs) up far (suc i) zero d le lt e = absurd (omega (arith, le))
-parted_behind f (x ∷ xs) up far (suc i) (suc j) d le lt e =
-    parted_behind f xs up.1 (and_parts (not (is_before x f)) (list_all (λ r. not (is_before r f)) xs) far).1 i j d (omega (arith, le)) (omega (arith, lt)) e
-
-pub parted : (f : Report) (xs : List Report) → f ≡ slice_index_or xs 0 f → AreAscending is_before xs → IsPartitionedBy (is_of f.subject) xs
-parted f [] is up = λ i j d le lt e. absurd (omega (arith, lt))
-parted f (x ∷ xs) is up =
-    subst (λ (g : Report). IsPartitionedBy (is_of g.subject) (x ∷ xs)) (sym is) (parted_behind x (x ∷ xs) up (both (not (is_before x x)) (list_all (λ r. not (is_before r x)) xs) (ap not (itself x)) up.0))
-
-pub together_itself : (s : Subject) → are_together s s ≡ true
-together_itself (Place p l) = refl
-together_itself (Package c n v f) = (bytes_eq-Decides c c).1 refl
-
--- where not all pass, some do, if the first does
-pub some_pass : (p : Report → Bool) (xs : List Report) (n : ℕ) (d : Report) → AllWithin (λ r. p r ≡ false) xs n (length xs) → 1 ≤ length xs → p (slice_index_or xs 0 d) ≡ true → 1 ≤ n
-some_pass p xs zero d fail there e = absurd (true≢false (sym e ∙ fail 0 d (omega arith) (omega (arith, there))))
-some_pass p xs (suc n) d fail there e = omega arith
-
--- ---- what is far
-near_same : (paths categories : List (List ℕ)) (s t : Subject) → are_together s t ≡ true → is_near paths categories t ≡ is_near paths categories s
+-- ---- reports that stand together may all be stale, or none
+pub near_same : (paths categories : List (List ℕ)) (s t : Subject) → are_together s t ≡ true → is_near paths categories t ≡ is_near paths categories s
 near_same paths categories (Place p l) (Place q m) e = refl
 near_same paths categories (Place p l) (Package d m w g) e = absurd (true≢false (sym e))
 near_same paths categories (Package c n v f) (Place q m) e = absurd (true≢false (sym e))
 near_same paths categories (Package c n v f) (Package d m w g) e = ap (λ x. is_near paths categories (Package x n v f)) (sym (same c d e))
 
-pub all_far : (paths categories : List (List ℕ)) (s : Subject) (n : ℕ) (xs : List Report) → is_near paths categories s ≡ false → AllWithin (λ r. is_of s r ≡ true) xs 0 n
-    → AllByRecursion (λ (r : Report). is_near paths categories r.subject ≡ false) (take n xs)
-all_far paths categories s zero xs far all = tt
-all_far paths categories s (suc n) [] far all = tt
-all_far paths categories s (suc n) (x ∷ xs) far all =
-    (near_same paths categories s x.subject (all 0 x (omega arith) (omega arith)) ∙ far, all_far paths categories s n xs far (λ k d low high. all (suc k) d (omega arith) (omega (arith, high))))
+equal_bytes : (a b : List ℕ) → is_eq (byte_cmp a b) ≡ true → b ≡ a
+equal_bytes a b e = sym (exact_bytes a b (is_equal (byte_cmp a b) e))
 
+pub may_same : (paths : List (List ℕ)) (ts : List Touched) (s t : Subject) → eq_by_cmp subject_cmp s t ≡ true → may_be_stale paths ts t ≡ may_be_stale paths ts s
+may_same paths ts (Place p l) (Place q m) e = refl
+may_same paths ts (Place p l) (Package d m w g) e = absurd (false≢true e)
+may_same paths ts (Package c n v f) (Place q m) e = absurd (false≢true e)
+may_same paths ts (Package c n v f) (Package d m w g) e =
+    let first = both_equal (byte_cmp c d) (ordering_then (byte_cmp n m) (ordering_then (compare v w) (byte_cmp f g))) e in
+    let second = both_equal (byte_cmp n m) (ordering_then (compare v w) (byte_cmp f g)) first.1 in
+    let third = both_equal (compare v w) (byte_cmp f g) second.1 in
+    ap (λ x. may_be_stale paths ts (Package x m w g)) (equal_bytes c d first.0)
+    ∙ (ap (λ x. may_be_stale paths ts (Package c x w g)) (equal_bytes n m second.0)
+    ∙ ap (λ x. may_be_stale paths ts (Package c n v x)) (equal_bytes f g third.1))
+
+-- ---- what is of another name, or mentions nothing, makes no report of a package stale
 mentions_none : (t : Touched) (class : Class) → touches t ≡ false → mentions_at t class ≡ false
 mentions_none t class e =
     let all = or_parts t.edited (t.depend || (t.bdepend || (t.rdepend || (t.pdepend || t.idepend)))) e in
@@ -142,11 +68,11 @@ mentions_none t class e =
     by d b r p i Idepend = i
 
 module _ (c n v f : List ℕ) (class : Class) where
-  apart : (t : Touched) → bytes_eq c (category_at t) ≡ false → is_stale_at (Package c n v f) class t ≡ false
+  apart : (t : Touched) → is_of_name c n t ≡ false → is_stale_at (Package c n v f) class t ≡ false
   apart t other = by (eq_by_cmp subject_cmp (subject_of t.pkg.now) (Package c n v f)) refl
     where
       by : (b : Bool) → eq_by_cmp subject_cmp (subject_of t.pkg.now) (Package c n v f) ≡ b → (b && mentions_at t class) ≡ false
-      by true e = absurd (true≢false (sym (and_parts (bytes_eq c t.pkg.now.category) (bytes_eq n t.pkg.now.name) (of_name t.pkg.now c n v f e)).0 ∙ other))
+      by true e = absurd (true≢false (sym (of_name t.pkg.now c n v f e) ∙ other))
       by false e = refl
 
   silent : (t : Touched) → touches t ≡ false → is_stale_at (Package c n v f) class t ≡ false
@@ -156,89 +82,93 @@ module _ (c n v f : List ℕ) (class : Class) where
       by true h = h
       by false h = refl
 
+  -- none of its category is touched
   none_stale : (ts : List Touched) → has_text (map category_at (filter touches ts)) c ≡ false → is_stale_among ts (Package c n v f) class ≡ false
   none_stale [] e = refl
   none_stale (t ∷ ts) e = by (touches t) refl e (none_stale ts)
     where
+      no_name : bytes_eq c (category_at t) ≡ false → is_of_name c n t ≡ false
+      no_name h = ap (λ b. b && bytes_eq n t.pkg.now.name) h
+
       by : (b : Bool) → touches t ≡ b → has_text (map category_at (cond b (t ∷ filter touches ts) (filter touches ts))) c ≡ false
-          → (has_text (map category_at (filter touches ts)) c ≡ false → is_stale_among ts (Package c n v f) class ≡ false) → is_stale_among (t ∷ ts) (Package c n v f) class ≡ false
+          → (has_text (map category_at (filter touches ts)) c ≡ false → is_stale_among ts (Package c n v f) class ≡ false)
+          → is_stale_among (t ∷ ts) (Package c n v f) class ≡ false
       by true is h rest =
           let parts = or_parts (bytes_eq c (category_at t)) (has_text (map category_at (filter touches ts)) c) h in
-          ap (λ b. b || is_stale_among ts (Package c n v f) class) (apart t parts.0) ∙ rest parts.1
+          ap (λ b. b || is_stale_among ts (Package c n v f) class) (apart t (no_name parts.0)) ∙ rest parts.1
       by false is h rest = ap (λ b. b || is_stale_among ts (Package c n v f) class) (silent t is) ∙ rest h
 
-module _ (law : EditedInLaw) (paths : List (List ℕ)) (ts : List Touched) (categories : List (List ℕ)) (are : categories ≡ map category_at (filter touches ts)) where
-  unedited : (s : Subject) → is_near paths categories s ≡ false → is_edited paths s ≡ false
-  unedited (Place path line) far = refl
-  unedited (Package c n v f) far = law paths c n v f (or_parts (is_edited_in paths c) (has_text categories c) far).0
+  -- none of its name is touched
+  none_of_name : (ts : List Touched) → list_any touches (filter (is_of_name c n) ts) ≡ false → is_stale_among ts (Package c n v f) class ≡ false
+  none_of_name [] e = refl
+  none_of_name (t ∷ ts) e = by (is_of_name c n t) refl e (none_of_name ts)
+    where
+      by : (b : Bool) → is_of_name c n t ≡ b → list_any touches (cond b (t ∷ filter (is_of_name c n) ts) (filter (is_of_name c n) ts)) ≡ false
+          → (list_any touches (filter (is_of_name c n) ts) ≡ false → is_stale_among ts (Package c n v f) class ≡ false)
+          → is_stale_among (t ∷ ts) (Package c n v f) class ≡ false
+      by true is h rest =
+          let parts = or_parts (touches t) (list_any touches (filter (is_of_name c n) ts)) h in
+          ap (λ b. b || is_stale_among ts (Package c n v f) class) (silent t parts.0) ∙ rest parts.1
+      by false is h rest = ap (λ b. b || is_stale_among ts (Package c n v f) class) (apart t is) ∙ rest h
 
-  unstale : (s : Subject) (class : Class) → is_near paths categories s ≡ false → is_stale_among ts s class ≡ false
-  unstale (Place path line) class far = place_stale path line class ts
-  unstale (Package c n v f) class far = none_stale c n v f class ts (ap (λ cs. has_text cs c) (sym are) ∙ (or_parts (is_edited_in paths c) (has_text categories c) far).1)
-
-  lasts : (r : Report) → is_near paths categories r.subject ≡ false → is_lasting_by paths ts r ≡ true
-  lasts r far = rw (unedited r.subject far, in_none r.class) (neither_holds (rests_on_atoms r.keyword))
+-- ---- reports
+module _ (paths : List (List ℕ)) (ts : List Touched) where
+  not_stale : (r : Report) → is_edited paths r.subject ≡ false → ((class : Class) → is_stale_among ts r.subject class ≡ false) → is_stale_by paths ts r ≡ false
+  not_stale r unedited unstale = rw (unedited, in_none r.class) (neither_holds (rests_on_atoms r.keyword))
     where
       in_none : (class : Option Class) → option_map_or (is_stale_among ts r.subject) class false ≡ false
       in_none None = refl
-      in_none (Some class) = unstale r.subject class far
+      in_none (Some class) = unstale class
 
-      neither_holds : (b : Bool) → not (false || (b && false)) ≡ true
+      neither_holds : (b : Bool) → (false || (b && false)) ≡ false
       neither_holds true = refl
       neither_holds false = refl
 
-  all_last : (rs : List Report) → AllByRecursion (λ (r : Report). is_near paths categories r.subject ≡ false) rs → filter (is_lasting_by paths ts) rs ≡ rs
-  all_last [] all = refl
-  all_last (r ∷ rs) all = rw (lasts r all.0) (ap (λ l. r ∷ l) (all_last rs all.1))
+  all_not_stale : (may : Subject → Bool) → ((s : Subject) → may s ≡ false → is_edited paths s ≡ false)
+      → ((s : Subject) (class : Class) → may s ≡ false → is_stale_among ts s class ≡ false)
+      → (rs : List Report) → AllByRecursion (λ (r : Report). may r.subject ≡ false) rs → NoneStale paths ts rs
+  all_not_stale may unedited unstale [] all = tt
+  all_not_stale may unedited unstale (r ∷ rs) all =
+      (not_stale r (unedited r.subject all.0) (λ class. unstale r.subject class all.0), all_not_stale may unedited unstale rs all.1)
 
--- ---- one run
-one_more : (n : ℕ) → suc n ≡ n + 1
-one_more n = omega arith
+  -- of a category that isn't near
+  module _ (law : EditedInLaw) (categories : List (List ℕ)) (are : categories ≡ map category_at (filter touches ts)) where
+    unedited_far : (s : Subject) → is_near paths categories s ≡ false → is_edited paths s ≡ false
+    unedited_far (Place path line) far = refl
+    unedited_far (Package c n v f) far = law paths c n v f (or_parts (is_edited_in paths c) (has_text categories c) far).0
 
-taken : {X : Type 0} (n : ℕ) (xs : List X) → take n xs ++ take 1 (drop n xs) ≡ take (suc n) xs
-taken zero xs = refl
-taken (suc n) [] = refl
-taken (suc n) (x ∷ xs) = ap (λ l. x ∷ l) (taken n xs)
+    unstale_far : (s : Subject) (class : Class) → is_near paths categories s ≡ false → is_stale_among ts s class ≡ false
+    unstale_far (Place path line) class far = place_stale path line class ts
+    unstale_far (Package c n v f) class far =
+        none_stale c n v f class ts (ap (λ cs. has_text cs c) (sym are) ∙ (or_parts (is_edited_in paths c) (has_text categories c) far).1)
 
-dropped : {X : Type 0} (n : ℕ) (xs : List X) → drop 1 (drop n xs) ≡ drop (suc n) xs
-dropped zero xs = refl
-dropped (suc n) [] = refl
-dropped (suc n) (x ∷ xs) = dropped n xs
+    pub far_not_stale : (rs : List Report) → AllByRecursion (λ (r : Report). is_near paths categories r.subject ≡ false) rs → NoneStale paths ts rs
+    far_not_stale = all_not_stale (is_near paths categories) unedited_far unstale_far
 
-pub next_taken : {X : Type 0} (n : ℕ) (xs : List X) → take n xs ++ take 1 (drop n xs) ≡ take (n + 1) xs
-next_taken n xs = taken n xs ∙ ap (λ k. take k xs) (one_more n)
+  -- of a package whose reports can't be
+  unedited_package : (s : Subject) → may_be_stale paths ts s ≡ false → is_edited paths s ≡ false
+  unedited_package (Place path line) none = refl
+  unedited_package (Package c n v f) none = (or_parts (is_edited paths (Package c n v f)) (list_any touches (filter (is_of_name c n) ts)) none).0
 
-pub next_dropped : {X : Type 0} (n : ℕ) (xs : List X) → drop 1 (drop n xs) ≡ drop (n + 1) xs
-next_dropped n xs = dropped n xs ∙ ap (λ k. drop k xs) (one_more n)
+  unstale_package : (s : Subject) (class : Class) → may_be_stale paths ts s ≡ false → is_stale_among ts s class ≡ false
+  unstale_package (Place path line) class none = place_stale path line class ts
+  unstale_package (Package c n v f) class none =
+      none_of_name c n v f class ts (or_parts (is_edited paths (Package c n v f)) (list_any touches (filter (is_of_name c n) ts)) none).1
 
-parts_again : {X : Type 0} (n : ℕ) (xs : List X) → take n xs ++ drop n xs ≡ xs
-parts_again zero xs = refl
-parts_again (suc n) [] = refl
-parts_again (suc n) (x ∷ xs) = ap (λ l. x ∷ l) (parts_again n xs)
+  pub package_not_stale : (rs : List Report) → AllByRecursion (λ (r : Report). may_be_stale paths ts r.subject ≡ false) rs → NoneStale paths ts rs
+  package_not_stale = all_not_stale (may_be_stale paths ts) unedited_package unstale_package
 
-pub ascending_rest : (n : ℕ) (xs : List Report) → AreAscending is_before xs → AreAscending is_before (drop n xs)
-ascending_rest zero xs up = up
-ascending_rest (suc n) [] up = tt
-ascending_rest (suc n) (x ∷ xs) up = ascending_rest n xs up.1
+-- ---- the packages of a name are at its places
+module _ (c n : List ℕ) (ts : List Touched) where
+  at_places : (places : List ℕ) → map (slice_get ts) places ≡ map Some (filter (is_of_name c n) ts)
+      → list_any (touches_place ts) places ≡ list_any touches (filter (is_of_name c n) ts)
+  at_places places items =
+      let found : Option Touched → Bool = λ o. option_map_or touches o false in
+      sym (any_map found (slice_get ts) places) ∙ (ap (list_any found) items ∙ any_map found Some (filter (is_of_name c n) ts))
 
-pub shorter_rest : {X : Type 0} (n : ℕ) (xs : List X) → 1 ≤ n → 1 ≤ length xs → length (drop n xs) < length xs
-shorter_rest zero xs some there = absurd (omega (arith, some))
-shorter_rest (suc n) [] some there = absurd (omega (arith, there))
-shorter_rest (suc n) (x ∷ xs) some there = omega (arith, no_longer n xs)
-  where
-    no_longer : {X : Type 0} (n : ℕ) (xs : List X) → length (drop n xs) ≤ length xs
-    no_longer zero xs = omega arith
-    no_longer (suc n) [] = omega arith
-    no_longer (suc n) (x ∷ xs) = omega (arith, no_longer n xs)
-
-module _ (test : Report → Bool) where
-  pub near_step : (front kept rest all : List Report) (n : ℕ) → kept ++ filter test rest ≡ all → front ≡ kept ++ filter test (take n rest) → front ++ filter test (drop n rest) ≡ all
-  near_step front kept rest all n so_far is =
-      ap (λ l. l ++ filter test (drop n rest)) is ∙ append_assoc kept (filter test (take n rest)) (filter test (drop n rest))
-      ∙ ap (λ l. kept ++ l) (sym (filter-append test (take n rest) (drop n rest)) ∙ ap (filter test) (parts_again n rest)) ∙ so_far
-
-pub far_step : (law : EditedInLaw) (paths : List (List ℕ)) (ts : List Touched) (categories : List (List ℕ)) → categories ≡ map category_at (filter touches ts)
-    → (front kept rest all : List Report) (n : ℕ) → kept ++ filter (is_lasting_by paths ts) rest ≡ all → front ≡ kept ++ take n rest
-    → AllByRecursion (λ (r : Report). is_near paths categories r.subject ≡ false) (take n rest) → front ++ filter (is_lasting_by paths ts) (drop n rest) ≡ all
-far_step law paths ts categories are front kept rest all n so_far is far =
-    near_step (is_lasting_by paths ts) front kept rest all n so_far (is ∙ ap (λ l. kept ++ l) (sym (all_last law paths ts categories are (take n rest) far)))
+  pub touched_of_name : (pkgs : List Pkg) → pkgs ≡ map pkg_at ts
+      → list_any (touches_place ts) (places_of (is_pkg_of c n) pkgs) ≡ list_any touches (filter (is_of_name c n) ts)
+  touched_of_name pkgs e =
+      ap (λ ps. list_any (touches_place ts) (places_of (is_pkg_of c n) ps)) e
+      ∙ (ap (list_any (touches_place ts)) (places_map (is_pkg_of c n) pkg_at 0 ts)
+      ∙ at_places (places_of (is_of_name c n) ts) (items_from (is_of_name c n) [] ts))

@@ -15,6 +15,7 @@ pub mod SharedLemmas
 pub mod OneLemmas
 pub mod KeyLemmas
 pub mod LastingLemmas
+pub mod RunLemmas
 pub mod ViewLemmas
 pub mod MentionedLemmas
 pub mod MarkLemmas

@@ -1,6 +1,5 @@
 -- What is found of packages says what is due, stale and told anew.
 use Rattle.std.proofs.Common.{◌≡◌, ℕ, ◌+◌, Bool, true, false, not, ◌&&◌, ◌||◌, if◌then◌else◌, List, [], ◌∷◌, ◌++◌, length, map, filter, ◌≤◌, refl, sym, ap, subst, ◌∙◌, Option, None, Some}
-use Rattle.std.proofs.lemmas.Bool.{true≢false}
 use Rattle.std.proofs.lemmas.Grind.{flat_map-append}
 use Rattle.std.proofs.lemmas.List.Elements.{filter-append}
 use Rattle.std.specs.Prelude.{filter_map, flat_map, IfErr, IfOk, Result, Ok, Err}
@@ -10,7 +9,6 @@ use Rattle.std.specs.Ordering.{eq_by_cmp}
 use Rattle.gv_base.specs.Counts.{Counts}
 use Rattle.gv_facts.specs.Visible.{judged}
 use Rattle.gv_facts.specs.declared.kinds.Class.{Class}
-use Rattle.gv_facts.specs.declared.kinds.Class.TheVariants.{Required, Depend, Bdepend, Rdepend, Pdepend, Idepend}
 use Rattle.gv_facts.specs.declared.kinds.Level.{Level}
 use Rattle.gv_facts.specs.declared.profile.Profile.{Profile}
 use Rattle.gv_report.specs.Distinct.{ordered}
@@ -28,13 +26,14 @@ use Rattle.gv_checks.specs.Due.{AreAnswered, IsRenewedHere, due_classes, due_pkg
 use Rattle.gv_load.specs.EntryEdits.{IsPartOf, is_edited}
 use Rattle.gv_checks.specs.Limits.{Refuses}
 use Rattle.gv_checks.specs.Queries.{case_queries, class_queries, is_asked, queries, query_of}
-use Rattle.gv_checks.specs.Renewal.{AreOfBefore, IsRenewed, is_due, is_lasting, is_stale_class, mentions, rests_on_atoms, told_anew}
-use Rattle.gv_report.specs.Renewing.{RenewedLaw}
+use Rattle.gv_checks.specs.Renewal.{AreOfBefore, IsRenewed, fresh_reports, is_due, is_lasting, is_stale, is_stale_class, mentions, rests_on_atoms, told_anew}
+use Rattle.gv_report.specs.Renewing.{FollowsOrder, RenewedLaw}
 use Rattle.gv_checks.specs.RepoReports.{query_report, readable_classes, subject_of}
-use Rattle.gv_checks.specs.Touched.{AreTouched, IsTouched, anew_at, is_lasting_by, is_stale_among, member_at, mentions_at, touches}
+use Rattle.gv_checks.specs.Touched.{AreTouched, IsTouched, anew_at, is_lasting_by, is_stale_among, is_stale_by, member_at, mentions_at}
 use Rattle.gv_checks.specs.declared.fault.JudgeFault.{JudgeFault}
 use Rattle.gv_checks.specs.declared.touched.Touched.{Touched}
 use Rattle.gv_checks.proofs.RenewalLaw.{all_within, first_refused, renewed_is}
+use Rattle.gv_checks.proofs.RenewalStale.{stale_follows}
 
 pub filter_same : {X : Type 0} (p q : X → Bool) → ((x : X) → p x ≡ q x) → (xs : List X) → filter p xs ≡ filter q xs
 filter_same p q e [] = refl
@@ -106,20 +105,28 @@ module _ (o : Options) (paths : List (List ℕ)) (repo : Repo) where
     stale_option s None = refl
     stale_option s (Some class) = stale_class s class
 
-    lasting_same : (r : Report) → is_lasting_by paths ts r ≡ is_lasting paths (members repo) r
-    lasting_same r = ap (λ b. not (is_edited paths r.subject || (rests_on_atoms r.keyword && b))) (stale_option r.subject r.class)
+    stale_by_same : (r : Report) → is_stale_by paths ts r ≡ is_stale paths (members repo) r
+    stale_by_same r = ap (λ b. is_edited paths r.subject || (rests_on_atoms r.keyword && b)) (stale_option r.subject r.class)
 
-    pub lasting_are : (rs : List Report) → filter (is_lasting_by paths ts) rs ≡ filter (is_lasting paths (members repo)) rs
-    lasting_are rs = filter_same (is_lasting_by paths ts) (is_lasting paths (members repo)) lasting_same rs
+    pub stale_by_follows : FollowsOrder (is_stale_by paths ts)
+    stale_by_follows r s tied = stale_by_same r ∙ (stale_follows paths (members repo) subject_total r s tied ∙ sym (stale_by_same s))
+
+    lasting_are : (rs : List Report) → filter (is_lasting_by paths ts) rs ≡ filter (is_lasting paths (members repo)) rs
+    lasting_are rs = filter_same (is_lasting_by paths ts) (is_lasting paths (members repo)) (λ r. ap not (stale_by_same r)) rs
 
     -- the whole
-    pub here : (old kept told answered reports : List Report) (before now : Counts) → kept ≡ filter (is_lasting_by paths ts) old
-        → told ≡ filter (selected o) repo.notes ++ flat_map (anew_at o repo) ts → AreAnswered (flat_map (due_pkg o repo) ts) before now answered
-        → reports ≡ ordered (kept ++ (told ++ answered)) → IsRenewedHere o paths repo old before now reports
-    here old kept told answered reports before now k t a r = record {
-      reports_are = r ∙ (ap (λ l. ordered (l ++ (told ++ answered))) (k ∙ lasting_are old)
-          ∙ (ap (λ l. ordered (filter (is_lasting paths (members repo)) old ++ (l ++ answered))) (t ∙ ap (λ l. filter (selected o) repo.notes ++ l) (anew_are ts are))
-          ∙ ap (λ l. ordered (filter (is_lasting paths (members repo)) old ++ ((filter (selected o) repo.notes ++ flat_map (told_anew o paths repo) (members repo)) ++ l))) (a.reports_are ∙ ap (filter_map query_report) (sym (due_are ts are)))));
+    fresh_are : (told answered : List Report) (before now : Counts) → told ≡ filter (selected o) repo.notes ++ flat_map (anew_at o repo) ts
+        → AreAnswered (flat_map (due_pkg o repo) ts) before now answered → told ++ answered ≡ fresh_reports o paths repo
+    fresh_are told answered before now t a =
+        ap (λ l. l ++ answered) (t ∙ ap (λ l. filter (selected o) repo.notes ++ l) (anew_are ts are))
+        ∙ ap (λ l. (filter (selected o) repo.notes ++ flat_map (told_anew o paths repo) (members repo)) ++ l) (a.reports_are ∙ ap (filter_map query_report) (sym (due_are ts are)))
+
+    pub here : (old told answered reports : List Report) (before now : Counts) → told ≡ filter (selected o) repo.notes ++ flat_map (anew_at o repo) ts
+        → AreAnswered (flat_map (due_pkg o repo) ts) before now answered → reports ≡ ordered (filter (is_lasting_by paths ts) old ++ (told ++ answered))
+        → IsRenewedHere o paths repo old before now reports
+    here old told answered reports before now t a r = record {
+      reports_are = r ∙ (ap (λ l. ordered (l ++ (told ++ answered))) (lasting_are old)
+          ∙ ap (λ l. ordered (filter (is_lasting paths (members repo)) old ++ l)) (fresh_are told answered before now t a));
       within = rw (due_are ts are) a.within;
       lowered = rw (due_are ts are) a.lowered;
     }

@@ -24,7 +24,7 @@ use Rattle.gv_checks.specs.declared.touched.Touched.{Touched}
 use Rattle.gv_checks.proofs.PlainLemmas.{any_among, any_map, items_from}
 
 -- equal subjects have one category and name
-both_equal : (a b : Ordering) → is_eq (ordering_then a b) ≡ true → (is_eq a ≡ true) × (is_eq b ≡ true)
+pub both_equal : (a b : Ordering) → is_eq (ordering_then a b) ≡ true → (is_eq a ≡ true) × (is_eq b ≡ true)
 both_equal Equal b h = (refl, h)
 both_equal Less b h = absurd (false≢true h)
 both_equal Greater b h = absurd (false≢true h)
@@ -51,7 +51,7 @@ front_true true b h = refl
 front_true false b h = h
 
 -- the places of what is made of items
-places_map : {A B : Type 0} (test : B → Bool) (f : A → B) (n : ℕ) (xs : List A) → places_from n test (map f xs) ≡ places_from n (λ x. test (f x)) xs
+pub places_map : {A B : Type 0} (test : B → Bool) (f : A → B) (n : ℕ) (xs : List A) → places_from n test (map f xs) ≡ places_from n (λ x. test (f x)) xs
 places_map test f n [] = refl
 places_map test f n (x ∷ xs) = ap (λ ns. if test (f x) then n ∷ ns else ns) (places_map test f (n + 1) xs)
 

@@ -1,70 +1,52 @@
-//! The reports of before that aren't stale, in their order.
+//! The places of the reports of before that are stale.
 //!
-//! Reports of one category stand together. Where one category ends is found by O(log n) comparisons of categories among n reports.
-//! Only in the category of an edited entry, or of a package of which something rests on edited entries, a report costs what `stale`
-//! says; the others are moved.
-ghost use Rattle.std.specs.Prelude.{◌≡◌, ◌≤◌, ◌++◌, [], true, drop, filter, length, map, slice_index_or, take, IfOk, MatchOption, OnOk};
-ghost use Rattle.std.specs.List.{AllWithin};
-ghost use Rattle.std.specs.List.Sorted.{IsPartitionedBy};
+//! Reports of one category stand together, and in it those of one package. Where a category ends is found by O(log n) comparisons
+//! among n reports; so is where a package ends, but only in the category of an edited entry, or of a package of which something
+//! rests on edited entries. Such a package costs a look-up among the edited entries, one by hash, and a look at each of its name.
+//! Only where its entry is edited, or something of one of its name rests on edited entries, its reports cost what `stale` says.
+//! No report is moved.
+ghost use Rattle.std.specs.Prelude.{◌≡◌, ◌≤◌, ◌<◌, ◌+◌, ◌^◌, ◌++◌, [], true, false, filter, length, map, IfOk, MatchOption, OnOk};
+ghost use Rattle.std.specs.List.{list_any};
+ghost use Rattle.std.specs.List.Sorted.{IsPartitionPoint, IsPartitionedBy};
+ghost use Rattle.gv_facts.specs.Places.{places_from, places_of};
+ghost use Rattle.gv_load.specs.EntryEdits.{is_about};
 ghost use Rattle.gv_report.specs.Distinct.{is_before, ordered};
 ghost use Rattle.gv_report.specs.Sorting.{AreAscending};
-ghost use Rattle.gv_report.specs.declared.report.Report.{Report};
-ghost use Rattle.gv_checks.specs.Lasting.{are_together, category_at, is_near, is_of, IsRun};
-ghost use Rattle.gv_checks.specs.Touched.{is_lasting_by, pkg_at, touches};
+ghost use Rattle.gv_checks.specs.Lasting.{are_together, category_at, is_near, is_of, may_be_stale, touches_place, IsRun, NoneStale};
+ghost use Rattle.gv_checks.specs.Touched.{is_stale_by, pkg_at, touches};
 
 use crate::stale::is_stale;
 use crate::touched::Touched;
 use gv_base::{NoMemory, Text, Texts};
 use gv_load::{EntryEdits, edited_in_law};
-use gv_report::{Report, Reports, Subject, ordered_law};
+use gv_report::{Report, Subject, ordered_law};
 use gv_visible::PkgIndex;
 use std::alloc::Global;
-use std::collections::VecDeque;
 
-/// The reports of before that aren't stale, in their order. Those of before are in order.
-pub(crate) fn lasting(
+/// The places of those of the reports of before, which are in order, that are stale, ascending.
+pub(crate) fn stale_places(
     alloc: Global,
     index: &PkgIndex<'_>,
     edits: &EntryEdits,
     touched: &[Touched<'_>],
-    before: Reports,
-) -> Result<Reports, NoMemory>
+    before: &[Report],
+) -> Result<Vec<usize>, NoMemory>
     requires index { index.now ≡ map pkg_at touched.now }
-    requires order { ordered before ≡ before }
-    ensures { IfOk result (λ reports. reports ≡ filter (is_lasting_by edits.now touched.now) before) }
+    requires order { ordered before.now ≡ before.now }
+    ensures { IfOk result (λ places. places.items ≡ places_of (is_stale_by edits.now touched.now) before.now) }
 {
     ordered_law();
-    let categories = touched_categories(alloc, touched)?;
-    let items = before.into_items();
-    let kept = Vec::with_capacity(alloc, items.len())?;
-    let rest = VecDeque::from_vec(items);
-    let kept = with_lasting(index, edits, touched, &categories, kept, rest)?;
-    Ok(Reports::of(kept))
-}
-
-// These reports, and behind them those of the rest that aren't stale.
-fn with_lasting(
-    index: &PkgIndex<'_>,
-    edits: &EntryEdits,
-    touched: &[Touched<'_>],
-    categories: &Texts,
-    mut kept: Vec<Report>,
-    mut rest: VecDeque<Report>,
-) -> Result<Vec<Report>, NoMemory>
-    requires index { index.now ≡ map pkg_at touched.now }
-    requires categories { categories.now ≡ map category_at (filter touches touched.now) }
-    requires order { AreAscending is_before rest.items }
-    ensures { IfOk result (λ all. all.items ≡ kept.items ++ filter (is_lasting_by edits.now touched.now) rest.items) }
-{
     edited_in_law();
-    while let Some(run) = next_run(edits, categories, &rest) {
-        if run.near {
-            add_lasting(index, edits, touched, &mut rest, run.count, &mut kept)?;
-        } else {
-            add_all(&mut rest, run.count, &mut kept)?;
-        }
+    let categories = touched_categories(alloc, touched)?;
+    let mut places = Vec::new(alloc);
+    let mut at = 0;
+    let mut rest = before;
+    while let Some(run) = next_category(edits, &categories, rest) {
+        add_category(index, edits, touched, at, &run, &mut places)?;
+        at += run.here.len();
+        rest = run.behind;
     }
-    Ok(kept)
+    Ok(places)
 }
 
 // The categories of the packages of which something rests on edited entries.
@@ -80,41 +62,32 @@ fn touched_categories(alloc: Global, touched: &[Touched<'_>]) -> Result<Texts, N
     Ok(categories)
 }
 
-// So many reports in front that are of one category, or of none, and whether some of these may be stale.
+// The reports in front that are of one category, or of one package, whether some of these may be stale, and the reports behind.
 #[derive(Clone, Copy)]
-struct Run {
+struct Run<'a> {
     near: bool,
-    count: usize,
+    here: &'a [Report],
+    behind: &'a [Report],
 }
 
-fn next_run(edits: &EntryEdits, categories: &Texts, rest: &VecDeque<Report>) -> Option<Run>
-    requires { AreAscending is_before rest.now.items }
-    ensures { MatchOption result (rest.now.items ≡ []) (IsRun edits.now categories.now rest.now.items) }
+// Those of the first one's category, or of none.
+fn next_category<'a>(edits: &EntryEdits, categories: &Texts, rest: &'a [Report]) -> Option<Run<'a>>
+    requires { AreAscending is_before rest.now }
+    ensures { MatchOption result (rest.now ≡ []) (IsRun (is_near edits.now categories.now) rest.now) }
 {
-    match rest.front() {
-        Some(first) => Some(run_of(edits, categories, rest, first)),
-        None => None,
-    }
-}
-
-fn run_of(edits: &EntryEdits, categories: &Texts, rest: &VecDeque<Report>, first: &Report) -> Run
-    requires parted { IsPartitionedBy (is_of first.now.subject) rest.now.items }
-    requires front { first.now ≡ slice_index_or rest.now.items 0 first.now }
-    ensures near { result.near ≡ is_near edits.now categories.now first.now.subject }
-    ensures count { AllWithin (λ r. is_of first.now.subject r ≡ true) rest.now.items 0 result.count }
-    ensures some { 1 ≤ length rest.now.items → 1 ≤ result.count }
-{
-    Run {
-        near: is_near(edits, categories, &first.subject),
-        count: count_of(rest, &first.subject),
-    }
+    let [first, ..] = rest else {
+        return None;
+    };
+    let near = is_near(edits, categories, &first.subject);
+    let (here, behind) = rest.split_at(category_len(rest, &first.subject));
+    Some(Run { near, here, behind })
 }
 
 // How many reports in front are of the category of this subject.
-fn count_of(rest: &VecDeque<Report>, subject: &Subject) -> usize
-    requires { IsPartitionedBy (is_of subject.now) rest.now.items }
-    ensures all { AllWithin (λ r. is_of subject.now r ≡ true) rest.now.items 0 result }
-    ensures some { (d : Report) → 1 ≤ length rest.now.items → is_of subject.now (slice_index_or rest.now.items 0 d) ≡ true → 1 ≤ result }
+fn category_len(rest: &[Report], subject: &Subject) -> usize
+    requires { IsPartitionedBy (is_of subject.now) rest.now }
+    ensures fits { result ≤ length rest.now }
+    ensures point { IsPartitionPoint (λ r. is_of subject.now r ≡ true) (λ r. is_of subject.now r ≡ false) rest.now result }
 {
     rest.partition_point(|report| are_together(subject, &report.subject))
 }
@@ -145,66 +118,155 @@ fn is_near(edits: &EntryEdits, categories: &Texts, subject: &Subject) -> bool
     }
 }
 
-// Adds so many reports, but for those that are stale.
-fn add_lasting(
+// Adds the places of the stale ones of a category, the first of which has this place.
+fn add_category(
     index: &PkgIndex<'_>,
     edits: &EntryEdits,
     touched: &[Touched<'_>],
-    rest: &mut VecDeque<Report>,
-    count: usize,
-    kept: &mut Vec<Report>,
+    at: usize,
+    run: &Run<'_>,
+    places: &mut Vec<usize>,
 ) -> Result<(), NoMemory>
-    requires { index.now ≡ map pkg_at touched.now }
-    ensures kept { OnOk result (kept.new.items ≡ kept.old.items ++ filter (is_lasting_by edits.now touched.now) (take count rest.old.items)) }
-    ensures rest { OnOk result (rest.new.items ≡ drop count rest.old.items) }
+    requires index { index.now ≡ map pkg_at touched.now }
+    requires order { AreAscending is_before run.now.here.now }
+    requires fits { at + length run.now.here.now < 2 ^ 64 }
+    requires far { run.now.near ≡ false → NoneStale edits.now touched.now run.now.here.now }
+    ensures { OnOk result (places.new.items ≡ places.old.items ++ places_from at (is_stale_by edits.now touched.now) run.now.here.now) }
 {
-    for _ in 0..count {
-        add_next_lasting(index, edits, touched, rest, kept)?;
-    }
-    Ok(())
-}
-
-fn add_next_lasting(
-    index: &PkgIndex<'_>,
-    edits: &EntryEdits,
-    touched: &[Touched<'_>],
-    rest: &mut VecDeque<Report>,
-    kept: &mut Vec<Report>,
-) -> Result<(), NoMemory>
-    requires { index.now ≡ map pkg_at touched.now }
-    ensures kept { OnOk result (kept.new.items ≡ kept.old.items ++ filter (is_lasting_by edits.now touched.now) (take 1 rest.old.items)) }
-    ensures rest { OnOk result (rest.new.items ≡ drop 1 rest.old.items) }
-{
-    let Some(report) = rest.pop_front() else {
+    if !run.near {
         return Ok(());
-    };
-    if !is_stale(index, edits, touched, &report) {
-        kept.push(report)?;
     }
-    Ok(())
+    add_packages(index, edits, touched, at, run.here, places)
 }
 
-// Adds so many reports.
-fn add_all(
-    rest: &mut VecDeque<Report>,
-    count: usize,
-    kept: &mut Vec<Report>,
+// Adds the places of the stale ones of these reports, package by package.
+fn add_packages(
+    index: &PkgIndex<'_>,
+    edits: &EntryEdits,
+    touched: &[Touched<'_>],
+    start: usize,
+    reports: &[Report],
+    places: &mut Vec<usize>,
 ) -> Result<(), NoMemory>
-    ensures kept { OnOk result (kept.new.items ≡ kept.old.items ++ take count rest.old.items) }
-    ensures rest { OnOk result (rest.new.items ≡ drop count rest.old.items) }
+    requires index { index.now ≡ map pkg_at touched.now }
+    requires order { AreAscending is_before reports.now }
+    requires fits { start + length reports.now < 2 ^ 64 }
+    ensures { OnOk result (places.new.items ≡ places.old.items ++ places_from start (is_stale_by edits.now touched.now) reports.now) }
 {
-    for _ in 0..count {
-        add_next(rest, kept)?;
+    let mut at = start;
+    let mut rest = reports;
+    while let Some(run) = next_package(index, edits, touched, rest) {
+        add_package(index, edits, touched, at, &run, places)?;
+        at += run.here.len();
+        rest = run.behind;
     }
     Ok(())
 }
 
-fn add_next(rest: &mut VecDeque<Report>, kept: &mut Vec<Report>) -> Result<(), NoMemory>
-    ensures kept { OnOk result (kept.new.items ≡ kept.old.items ++ take 1 rest.old.items) }
-    ensures rest { OnOk result (rest.new.items ≡ drop 1 rest.old.items) }
+// Those of the first one's package.
+fn next_package<'a>(
+    index: &PkgIndex<'_>,
+    edits: &EntryEdits,
+    touched: &[Touched<'_>],
+    rest: &'a [Report],
+) -> Option<Run<'a>>
+    requires index { index.now ≡ map pkg_at touched.now }
+    requires order { AreAscending is_before rest.now }
+    ensures { MatchOption result (rest.now ≡ []) (IsRun (may_be_stale edits.now touched.now) rest.now) }
 {
-    if let Some(report) = rest.pop_front() {
-        kept.push(report)?;
+    let [first, ..] = rest else {
+        return None;
+    };
+    let near = may_be_stale(index, edits, touched, &first.subject);
+    let (here, behind) = rest.split_at(package_len(rest, &first.subject));
+    Some(Run { near, here, behind })
+}
+
+// How many reports in front are of the package of this subject.
+fn package_len(rest: &[Report], subject: &Subject) -> usize
+    requires { IsPartitionedBy (is_about subject.now) rest.now }
+    ensures fits { result ≤ length rest.now }
+    ensures point { IsPartitionPoint (λ r. is_about subject.now r ≡ true) (λ r. is_about subject.now r ≡ false) rest.now result }
+{
+    rest.partition_point(|report| subject.compare(&report.subject).is_eq())
+}
+
+// Whether reports of this subject may be stale.
+#[tactic(auto, using(crate::proofs::LastingLemmas::touched_of_name))]
+fn may_be_stale(
+    index: &PkgIndex<'_>,
+    edits: &EntryEdits,
+    touched: &[Touched<'_>],
+    subject: &Subject,
+) -> bool
+    requires { index.now ≡ map pkg_at touched.now }
+    ensures { result ≡ may_be_stale edits.now touched.now subject.now }
+{
+    match subject {
+        Subject::Place { .. } => false,
+        Subject::Package { category, name, .. } => {
+            edits.is_of(subject) || some_touches(touched, index.at(category.bytes(), name.bytes()))
+        }
+    }
+}
+
+fn some_touches(touched: &[Touched<'_>], places: &[u32]) -> bool
+    ensures { result ≡ list_any (touches_place touched.now) places.now }
+{
+    for place in places {
+        if touches_place(touched, *place) {
+            return true;
+        }
+    }
+    false
+}
+
+fn touches_place(touched: &[Touched<'_>], place: u32) -> bool
+    ensures { result ≡ touches_place touched.now place }
+{
+    match touched.get(place as usize) {
+        Some(one) => one.touches(),
+        None => false,
+    }
+}
+
+// Adds the places of the stale ones of a package, the first of which has this place.
+fn add_package(
+    index: &PkgIndex<'_>,
+    edits: &EntryEdits,
+    touched: &[Touched<'_>],
+    at: usize,
+    run: &Run<'_>,
+    places: &mut Vec<usize>,
+) -> Result<(), NoMemory>
+    requires index { index.now ≡ map pkg_at touched.now }
+    requires fits { at + length run.now.here.now < 2 ^ 64 }
+    requires far { run.now.near ≡ false → NoneStale edits.now touched.now run.now.here.now }
+    ensures { OnOk result (places.new.items ≡ places.old.items ++ places_from at (is_stale_by edits.now touched.now) run.now.here.now) }
+{
+    if !run.near {
+        return Ok(());
+    }
+    add_stale(index, edits, touched, at, run.here, places)
+}
+
+// Adds the places of the stale ones of these reports, each of which is looked at.
+fn add_stale(
+    index: &PkgIndex<'_>,
+    edits: &EntryEdits,
+    touched: &[Touched<'_>],
+    start: usize,
+    reports: &[Report],
+    places: &mut Vec<usize>,
+) -> Result<(), NoMemory>
+    requires index { index.now ≡ map pkg_at touched.now }
+    requires fits { start + length reports.now < 2 ^ 64 }
+    ensures { OnOk result (places.new.items ≡ places.old.items ++ places_from start (is_stale_by edits.now touched.now) reports.now) }
+{
+    for (i, report) in reports.iter().enumerate() {
+        if is_stale(index, edits, touched, report) {
+            places.push(start + i)?;
+        }
     }
     Ok(())
 }

@@ -14,8 +14,9 @@
 //! - `reporting`: the report of a query. `nonexistent`, `unstated`, `plainly`: the reports that need no query.
 //! - `finding`, `one`, `known`: one query by its name, answered or looked up.
 //! - `mentioned`: the names that packages' classes mention, by numbers. `touched`: what of each package rests on edited entries.
-//!   `stale`, `afresh`, `due`: which reports of before are stale, what is told anew without a query, and the queries that are
-//!   answered anew. `renewing`: the reports of a repository in which entries were edited, from those of before.
+//!   `stale`, `lasting`: which reports of before are stale, and their places. `afresh`, `due`: what is told anew without a query,
+//!   and the queries that are answered anew. `renewing`: the reports of a repository in which entries were edited, from those of
+//!   before.
 //! - `laws`: what answers mean.
 #![tactic(auto)]
 

@@ -103,8 +103,8 @@ impl Mentioned {
         requires { self ≡ are_mentioned repo.now.bodies }
         ensures { IfOk result (λ kept. kept ≡ are_kept edits.now repo.now) }
     {
+        let mut packages = Vec::with_capacity(alloc, self.packages.len())?;
         let mut all = self.packages.into_iter();
-        let mut packages = Vec::new(alloc);
         for pkg in repo.pkgs.items() {
             let Some(numbers) = all.next() else {
                 return Ok(Mentioned { packages });
@@ -123,8 +123,8 @@ impl Mentioned {
         ensures { IfOk result (λ mentioned. mentioned ≡ are_mentioned repo.now.bodies) }
     {
         let pkgs = repo.pkgs.items();
+        let mut packages = Vec::with_capacity(alloc, pkgs.len())?;
         let mut kept = self.packages.into_iter();
-        let mut packages = Vec::new(alloc);
         for (i, body) in repo.bodies.items().iter().enumerate() {
             let pkg = &pkgs[i];
             let numbers = if edits.is_edited(&pkg.category, &pkg.pf) {

@@ -2,12 +2,15 @@
 //!
 //! What of each package rests on edited entries is found as `touched` says. The reports of before cost what `lasting` says, and a
 //! package that is edited, or has an atom of the name of an edited entry, what `afresh` and `due` say; the others cost no more. What
-//! each profile shows is asked of all packages where more than one in 32 is so, and else of those that are asked about. What is told
-//! anew is put among the reports of before as `merged` does.
-ghost use Rattle.std.specs.Prelude.{◌≡◌, ◌++◌, [], filter, flat_map, length, map, IfErr, IfOk};
+//! each profile shows is asked of all packages where more than one in 32 is so, and else of those that are asked about; the flags
+//! that rules name are put into a set in the same case alone. Stale reports are exchanged for what is told anew as `exchanged` of `gv_report` does.
+ghost use Rattle.std.specs.Prelude.{◌≡◌, ◌++◌, [], Bool, not, filter, flat_map, length, map, IfErr, IfOk};
 ghost use Rattle.std.specs.List.{AllByRecursion};
+ghost use Rattle.gv_facts.specs.Places.{places_of};
 ghost use Rattle.gv_report.specs.Distinct.{ordered};
+ghost use Rattle.gv_report.specs.Renewing.{FollowsOrder};
 ghost use Rattle.gv_report.specs.Selecting.{selected};
+ghost use Rattle.gv_report.specs.declared.report.Report.{Report};
 ghost use Rattle.gv_load.specs.EntryEdits.{IsPartOf};
 ghost use Rattle.gv_load.specs.Repository.{AreInPackageOrder};
 ghost use Rattle.gv_load.specs.declared.loading.Repo.{Repo};
@@ -24,16 +27,16 @@ use crate::JudgeFault;
 use crate::afresh::add_anew;
 use crate::due::judge_due;
 use crate::judging::Progress;
-use crate::lasting::lasting;
+use crate::lasting::stale_places;
 use crate::mentioned::Mentioned;
 use crate::plainly::noted;
 use crate::touched::{Touched, all_touched};
 use crate::used::Used;
-use crate::views::{Asked, ProfileView, all_views};
+use crate::views::{Asked, ProfileView, all_views, ruled};
 use gv_base::{Ledger, NoMemory, Steps};
 use gv_cert::Known;
 use gv_load::{EntryEdits, Repo};
-use gv_report::{Options, Reports, merged, renewed_law, selected_law};
+use gv_report::{Options, Reports, exchanged, renewed_law};
 use gv_usestate::RuledFlags;
 use gv_visible::PkgIndex;
 use std::alloc::Global;
@@ -80,9 +83,8 @@ fn renew_here<L: Ledger>(
     ensures cause { IfErr result (Refuses options.now.budget [] (filter (is_due edits.now) (queries options.now repo.now))) }
 {
     let index = PkgIndex::new(&repo.pkgs);
-    let ruled = RuledFlags::new(alloc, repo.profiles.items())?;
     renew_over(
-        alloc, repo, &index, &ruled, options, edits, mentioned, before, steps,
+        alloc, repo, &index, options, edits, mentioned, before, steps,
     )
 }
 
@@ -90,7 +92,6 @@ fn renew_over<L: Ledger>(
     alloc: Global,
     repo: &Repo,
     index: &PkgIndex<'_>,
-    ruled: &RuledFlags<'_>,
     options: &Options,
     edits: &EntryEdits,
     mentioned: &Mentioned,
@@ -100,13 +101,12 @@ fn renew_over<L: Ledger>(
     requires bodies { length repo.now.bodies ≡ length repo.now.pkgs }
     requires mentioned { mentioned.now ≡ are_mentioned repo.now.bodies }
     requires index { index.now ≡ repo.now.pkgs }
-    requires ruled { ruled.now ≡ repo.now.profiles }
     requires before { ordered before ≡ before }
     ensures renewed { IfOk result (IsRenewedHere options.now edits.now repo.now before steps.old steps.new) }
     ensures cause { IfErr result (Refuses options.now.budget [] (filter (is_due edits.now) (queries options.now repo.now))) }
 {
     renew_indexed(
-        alloc, &*repo, &*index, ruled, options, edits, mentioned, before, steps,
+        alloc, &*repo, &*index, options, edits, mentioned, before, steps,
     )
 }
 
@@ -114,7 +114,6 @@ fn renew_indexed<'a, L: Ledger>(
     alloc: Global,
     repo: &'a Repo,
     index: &'a PkgIndex<'a>,
-    ruled: &RuledFlags<'_>,
     options: &Options,
     edits: &EntryEdits,
     mentioned: &Mentioned,
@@ -124,15 +123,16 @@ fn renew_indexed<'a, L: Ledger>(
     requires bodies { length repo.now.bodies ≡ length repo.now.pkgs }
     requires mentioned { mentioned.now ≡ are_mentioned repo.now.bodies }
     requires index { index.now ≡ repo.now.pkgs }
-    requires ruled { ruled.now ≡ repo.now.profiles }
     requires before { ordered before ≡ before }
     ensures renewed { IfOk result (IsRenewedHere options.now edits.now repo.now before steps.old steps.new) }
     ensures cause { IfErr result (Refuses options.now.budget [] (filter (is_due edits.now) (queries options.now repo.now))) }
 {
     let touched = all_touched(alloc, repo, mentioned, edits)?;
-    let views = all_views(alloc, index, repo.profiles.items(), asked(&touched))?;
+    let asked = asked(&touched);
+    let ruled = ruled(alloc, repo.profiles.items(), asked)?;
+    let views = all_views(alloc, index, repo.profiles.items(), asked)?;
     renew_touched(
-        alloc, repo, index, ruled, &views, options, edits, &touched, before, steps,
+        alloc, repo, index, &ruled, &views, options, edits, &touched, before, steps,
     )
 }
 
@@ -212,18 +212,21 @@ fn answered<L: Ledger>(
     Ok(reports)
 }
 
-// The reports that last, and those told anew, in order.
+// The reports of before without those at these places, which are stale, and with those told anew, in order.
 fn renewed(
     alloc: Global,
-    reports: Reports,
+    before: Reports,
+    stale: Vec<usize>,
     mut told: Reports,
     answered: Reports,
 ) -> Result<Reports, NoMemory>
-    requires { ordered reports ≡ reports }
-    ensures { IfOk result (λ renewed. renewed ≡ ordered (reports ++ (told ++ answered))) }
+    requires order { ordered before ≡ before }
+    requires places { (is_stale : Report → Bool) × (FollowsOrder is_stale × (stale.items ≡ places_of is_stale before)) }
+    ensures { (is_stale : Report → Bool) → FollowsOrder is_stale → stale.items ≡ places_of is_stale before
+        → IfOk result (λ renewed. renewed ≡ ordered (filter (λ r. not (is_stale r)) before ++ (told ++ answered))) }
 {
     told.append(answered)?;
-    merged(alloc, reports, told)
+    exchanged(alloc, before, stale, told)
 }
 
 #[tactic(auto, using(crate::proofs::RenewLemmas::due_are, crate::proofs::TouchedLemmas::pkgs_are))]
@@ -248,12 +251,11 @@ fn renew_touched<L: Ledger>(
     ensures renewed { IfOk result (IsRenewedHere options.now edits.now repo.now before steps.old steps.new) }
     ensures cause { IfErr result (Refuses options.now.budget [] (filter (is_due edits.now) (queries options.now repo.now))) }
 {
-    selected_law();
-    let kept = lasting(alloc, index, edits, touched, before)?;
+    let stale = stale_places(alloc, index, edits, touched, before.items())?;
     let told = anew(alloc, repo, index, views, options, touched)?;
     let answered = match answered(alloc, repo, index, ruled, views, options, touched, steps) {
         Ok(answered) => answered,
         Err(fault) => return Err(fault),
     };
-    Ok(renewed(alloc, kept, told, answered)?)
+    Ok(renewed(alloc, before, stale, told, answered)?)
 }

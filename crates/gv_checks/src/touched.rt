@@ -124,7 +124,7 @@ fn touched_among<'a>(
     requires marks { AreMarked (map entry_name edits.now) marks.now }
     ensures { IfOk result (λ ts. AreTouched edits.now pkgs.now (members_from 0 pkgs.now bodies.now) ts.items) }
 {
-    let mut touched = Vec::new(alloc);
+    let mut touched = Vec::with_capacity(alloc, pkgs.len())?;
     for (i, pkg) in pkgs.iter().enumerate() {
         if i >= bodies.len() {
             return Ok(touched);

@@ -1,7 +1,8 @@
 //! What each profile shows of the packages and says of flags.
 //!
 //! A view of a profile that is asked about few packages costs O(1). Where many are, it costs the sets of its flags and a test of each package, and
-//! each of its answers O(1); else each answer is a test of the package that is asked about.
+//! each of its answers O(1); else each answer is a test of the package that is asked about. What rules of the profiles name is put into a set in the
+//! same case alone.
 ghost use Rattle.std.specs.Prelude.{◌≡◌, map, Some, slice_get, IfOk, IfSome};
 ghost use Rattle.gv_facts.specs.Visible.{judged};
 ghost use Rattle.gv_visible.specs.Candidates.{level_of, pkgs_of, profile_of, test_of};
@@ -10,7 +11,7 @@ ghost use Rattle.gv_checks.specs.Walks.{seen};
 
 use gv_base::NoMemory;
 use gv_facts::{Level, Pkg, Profile};
-use gv_usestate::ProfileStates;
+use gv_usestate::{ProfileStates, RuledFlags};
 use gv_visible::{Candidates, PkgIndex, VisiblePkgs, judged};
 use std::alloc::Global;
 use std::marker::Model;
@@ -130,6 +131,20 @@ fn shown<'a>(
     match asked {
         Asked::Few => Ok(None),
         Asked::Many => Ok(Some(VisiblePkgs::new(alloc, index, profile)?)),
+    }
+}
+
+/// What rules of the profiles name, by a set of it where many packages are asked about.
+pub(crate) fn ruled<'a>(
+    alloc: Global,
+    profiles: &'a [Profile],
+    asked: Asked,
+) -> Result<RuledFlags<'a>, NoMemory>
+    ensures { IfOk result (λ ruled. ruled ≡ profiles.now) }
+{
+    match asked {
+        Asked::Few => Ok(RuledFlags::of(profiles)),
+        Asked::Many => RuledFlags::new(alloc, profiles),
     }
 }
 
