@@ -1,6 +1,7 @@
 //! What is told anew of packages without a query.
 //!
-//! An edited package costs what `plain` costs for it; another one the classes in which an atom has the name of an edited entry.
+//! A package on which nothing rests costs O(1). An edited one costs what `plain` costs for it; another one the classes in which an
+//! atom has the name of an edited entry.
 ghost use Rattle.std.specs.Prelude.{◌≡◌, ◌++◌, flat_map, map, OnOk};
 ghost use Rattle.std.specs.List.{AllByRecursion};
 ghost use Rattle.gv_checks.specs.Touched.{IsIn, anew_among, anew_at};
@@ -71,6 +72,9 @@ fn add_pkg_anew(
     requires numbered { IsIn repo.now.pkgs one.now }
     ensures { OnOk result (reports.new ≡ reports.old ++ anew_at options.now repo.now one.now) }
 {
+    if !one.touches() {
+        return Ok(());
+    }
     if one.edited {
         return add_member(
             alloc, options, repo, index, views, one.number, one.pkg, one.body, reports,
