@@ -1,23 +1,13 @@
-#!/usr/bin/env python3
 """Counts what the built program does on small trees, where time would tell nothing.
-
-    counts.py BINARY
 
 valgrind counts the calls of what solves, of what lowers and of what takes memory in a scan of a tree with some profiles that
 say the same, and in one of the same tree with more of them. Each distinct query is solved once; an expression of a package is
-lowered once, whatever its classes and profiles; and a query of another profile takes at most MOST calls for memory. Prints the counts, and a line
-for each case that went wrong. Exit status 1 where one went wrong. Where there is no valgrind, prints that nothing was counted.
+lowered once, whatever its classes and profiles; and a query of another profile takes at most MOST calls for memory.
 """
-import hashlib
 import os
 import re
-import shutil
-import subprocess
-import sys
-import tempfile
 
-sys.dont_write_bytecode = True
-from results import tell  # noqa: E402
+from common import EMPTY, bytes_of, needs, put, run
 
 PACKAGES = 40
 FEW, MANY = 3, 9
@@ -33,19 +23,11 @@ SOLVES = ("gv_solver::solver::search", "gv_solver::solver::solve", "gv_query::as
           "gv_query::records::backed_among")
 LOWERS = ("gv_lower::sketch::Sketch::begin", "gv_lower::sketch::Sketch::finish", "gv_lower::flags::free_flags")
 TAKES = ("rattle_alloc", "rattle_realloc")
-EMPTY = hashlib.md5(b"").hexdigest()
 
 
 def dependencies(n):
     one, two, three = (f"x/p{(n * k + 1) % (PACKAGES + 2)}" for k in (1, 3, 7))
     return f"{one} a? ( {two}[b] ) || ( {three}[c?] >={one}-1 )"
-
-
-def put(folder, path, text):
-    path = os.path.join(folder, path)
-    os.makedirs(os.path.dirname(path), exist_ok=True)
-    with open(path, "w", encoding="utf-8") as file:
-        file.write(text)
 
 
 def write_tree(folder, profiles):
@@ -100,34 +82,30 @@ def count(binary, folder, profiles):
     tree, certs, listing = (os.path.join(folder, f"{name}{profiles}") for name in ("R", "C", "calls"))
     write_tree(tree, profiles)
     words = ["valgrind", "--tool=callgrind", f"--callgrind-out-file={listing}", binary, "scan", tree, "--certs", certs, "--fresh"]
-    done = subprocess.run(words, capture_output=True, text=True, timeout=600)
-    if done.returncode not in (0, 1):
-        sys.exit(f"{words} ended with {done.returncode}: {done.stderr}")
+    status, _, err = run(words, timeout=600)
+    if status not in (0, 1):
+        raise AssertionError(f"{words} ended with {status}: {err}")
     with open(listing, encoding="utf-8", errors="replace") as file:
         counted = calls(file.read())
-    with open(certs, "rb") as file:
-        records = records_in(file.read())
-    return counted, records, sum(counted.get(name, 0) for name in TAKES)
+    return counted, records_in(bytes_of(certs)), sum(counted.get(name, 0) for name in TAKES)
 
 
-def main(binary):
-    if not shutil.which("valgrind"):
-        print("nothing was counted: there is no valgrind")
-        return 0
-    with tempfile.TemporaryDirectory() as folder:
-        few, many = (count(os.path.abspath(binary), folder, profiles) for profiles in (FEW, MANY))
-    results = []
-    for profiles, (counted, records, _) in ((FEW, few), (MANY, many)):
-        results.append((f"each distinct query solved once, with {profiles} profiles", first_of(counted, SOLVES), records))
-    lowered = [first_of(counted, LOWERS) for counted, _, _ in (few, many)]
-    results.append(("each expression of a package lowered once, and not for another profile", lowered, [EXPRESSIONS * PACKAGES] * 2))
+SAID = []
+
+
+def told():
+    return ", ".join(SAID)
+
+
+@needs("valgrind")
+def work_does_not_grow_with_what_is_the_same(binary, folder):
+    """Each distinct query is solved once, with few profiles and with many; each expression of a package is lowered once, and not for
+    another profile; and one more query takes few calls for memory."""
+    few, many = (count(binary, folder, profiles) for profiles in (FEW, MANY))
+    solved, lowered = ([first_of(counted, names) for counted, _, _ in (few, many)] for names in (SOLVES, LOWERS))
     each = (many[2] - few[2]) / ((MANY - FEW) * PACKAGES * QUERIES)
-    results.append((f"calls for memory of one more query, {each:.2f}, at most {MOST}", each <= MOST, True))
-    print(f"{few[1]} solved, {lowered[1]} lowered, {each:.2f} calls for memory a query of one more profile")
-    return tell(results)
+    SAID.append(f"{few[1]} solved, {lowered[1]} lowered, {each:.2f} calls for memory a query of one more profile")
+    return (solved, lowered, each if each > MOST else "few"), ([few[1], many[1]], [EXPRESSIONS * PACKAGES] * 2, "few")
 
 
-if __name__ == "__main__":
-    if len(sys.argv) != 2:
-        sys.exit(__doc__)
-    sys.exit(main(sys.argv[1]))
+CASES = [work_does_not_grow_with_what_is_the_same]

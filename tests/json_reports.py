@@ -1,30 +1,16 @@
-#!/usr/bin/env python3
-"""Reads back what the built program writes of each of the thirteen keywords in JSON, and compares it with the text.
-
-    json_reports.py BINARY
+"""Reads back what the built program writes of each keyword in JSON, and compares it with the text.
 
 One repository has reports of all keywords, some with `"` and `\\` in a path, a profile or a detail. Its reports stand below as
 Python's own values. Each line of `--json` must be read by Python's json as the value at its place, and be what Python's json
-writes of it; the text must have the same reports; and each keyword alone must give its own. Prints a line for each that went
-wrong, and last how many passed. Exit status 1 where one went wrong.
+writes of it; the text must have the same reports; and each keyword alone must give its own.
 """
 import json
 import os
-import subprocess
-import sys
-import tempfile
 
-sys.dont_write_bytecode = True
-import plain  # noqa: E402
-from results import tell, tried  # noqa: E402
+import plain
+from common import EMPTY, entry, named, put_files, run
 
-EMPTY = "d41d8cd98f00b204e9800998ecf8427e"
 ODD = 'de"v\\'
-
-
-def entry(**keys):
-    values = {"EAPI": "8", "SLOT": "0", "KEYWORDS": "amd64", "_md5_": EMPTY, **keys}
-    return "".join(f"{key}={value}\n" for key, value in values.items())
 
 
 def repository():
@@ -34,11 +20,12 @@ def repository():
         "profiles/base/eapi": "8\n",
         f"profiles/{ODD}/parent": "../base\n",
         "profiles/exp/parent": "../base\n",
-        'profiles/package.mask/m"\\': "*\n",
+        'profiles/package.mask/m"\\': "*\nx/gone\n",
         "app/t/t-1.ebuild": "",
     }
     entries = {
         "p-1": entry(IUSE="a", RDEPEND="a? ( x/none )"),
+        "p-2": entry(),
         "q-1": entry(EAPI="4"),
         "r-1": entry(_eclasses_=f'e"\\x\t{EMPTY}'),
         "s-1": entry(),
@@ -81,6 +68,14 @@ def reports():
     ]
 
 
+def lint_reports():
+    return [
+        place("UnknownProfilePackage", 'profiles/package.mask/m"\\', 2, "x/gone"),
+        package("RedundantVersion", "p-1", detail="p-2"),
+        *(package("RequiredUseDefaults", "u-1", level="stable", use="-a", detail="a !a", **context) for context in CONTEXTS),
+    ]
+
+
 def as_text(report):
     subject = report.get("package") or "%s:%d" % (report["path"], report["line"])
     parts = [subject, report["keyword"], report.get("class")]
@@ -96,8 +91,13 @@ def as_json(report):
 
 
 def scan(binary, folder, *more):
-    done = subprocess.run([binary, "scan", "R", "--certs", "C", *more], cwd=folder, capture_output=True, text=True, timeout=60)
-    return done.returncode, done.stdout, done.stderr
+    put_files(os.path.join(folder, "R"), repository())
+    return run([binary, "scan", "R", "--certs", "C", *more], cwd=folder)
+
+
+def lint(binary, folder, *more):
+    put_files(os.path.join(folder, "R"), repository())
+    return run([binary, "lint", "R", *more], cwd=folder)
 
 
 def read_back(out):
@@ -111,30 +111,40 @@ def read_back(out):
     return values
 
 
-def alone(binary, wanted, keyword, folder, _):
+def all_keywords_stand_here(*_):
+    return [sorted({r["keyword"] for r in told}) for told in (reports(), lint_reports())], [sorted(plain.KEYWORDS), sorted(plain.LINT_KEYWORDS)]
+
+
+def text(binary, folder):
+    return scan(binary, folder), (1, "".join(map(as_text, reports())), "")
+
+
+def json_is_read_back(binary, folder):
+    status, out, err = scan(binary, folder, "--json")
+    return (status, read_back(out), err), (1, reports(), "")
+
+
+def json_is_as_python_writes_it(binary, folder):
+    return scan(binary, folder, "--json")[1], "".join(map(as_json, reports()))
+
+
+def lint_is_read_back(binary, folder):
+    """Its text, its JSON and what Python writes of that; no file is made."""
+    told, (status, out, err) = lint(binary, folder), lint(binary, folder, "--json")
+    return (told, status, read_back(out), out, err, os.listdir(folder)), (
+        (1, "".join(map(as_text, lint_reports())), ""), 1, lint_reports(), "".join(map(as_json, lint_reports())), "", ["R"])
+
+
+def alone_of_a_lint(keyword, binary, folder):
+    status, out, err = lint(binary, folder, "--json", "--keywords", keyword)
+    return (status, read_back(out), err, scan(binary, folder, "--keywords", keyword)), (
+        1, [r for r in lint_reports() if r["keyword"] == keyword], "", (2, "", "gvis: bad command line\n"))
+
+
+def alone(keyword, binary, folder):
     status, out, err = scan(binary, folder, "--json", "--keywords", keyword)
-    return (status, read_back(out), err), (1, [r for r in wanted if r["keyword"] == keyword], "")
+    return (status, read_back(out), err), (1, [r for r in reports() if r["keyword"] == keyword], "")
 
 
-def main(binary):
-    binary = os.path.abspath(binary)
-    wanted = reports()
-    results = [("all keywords stand here", sorted({r["keyword"] for r in wanted}), sorted(plain.KEYWORDS))]
-    with tempfile.TemporaryDirectory() as folder:
-        for path, content in repository().items():
-            path = os.path.join(folder, "R", path)
-            os.makedirs(os.path.dirname(path), exist_ok=True)
-            with open(path, "w") as file:
-                file.write(content)
-        results.append(("text", scan(binary, folder), (1, "".join(map(as_text, wanted)), "")))
-        status, out, err = scan(binary, folder, "--json")
-        results.append(("JSON read back", (status, read_back(out), err), (1, wanted, "")))
-        results.append(("JSON as Python writes it", out, "".join(map(as_json, wanted))))
-        results += [tried(keyword, alone, binary, wanted, keyword, folder) for keyword in plain.KEYWORDS]
-    return tell(results)
-
-
-if __name__ == "__main__":
-    if len(sys.argv) != 2:
-        sys.exit(__doc__)
-    sys.exit(main(sys.argv[1]))
+CASES = [all_keywords_stand_here, text, json_is_read_back, json_is_as_python_writes_it, lint_is_read_back,
+         *(named(keyword, alone, keyword) for keyword in plain.KEYWORDS), *(named(keyword, alone_of_a_lint, keyword) for keyword in plain.LINT_KEYWORDS)]

@@ -1,5 +1,5 @@
 """A plain program that says what a scan of a map of files prints. It follows docs/rules.md and docs/formats.md, tries
-everything, and shares nothing with the proved program.
+everything, and shares nothing with the proved program. All of plain_atoms and plain_profiles can be named here.
 
     scan(files, keywords, profiles, json) -> (status, out, err)      files: from path to bytes; keywords and profiles: names, or
                                                                      None for all
@@ -8,598 +8,16 @@ import functools
 import hashlib
 import itertools
 import json
-import re
 
-BLANKS = " \t\r\n"
+from plain_atoms import *  # noqa: F403
+from plain_profiles import *  # noqa: F403
+
 CLASSES = ["DEPEND", "BDEPEND", "RDEPEND", "PDEPEND", "IDEPEND"]
-STATUSES = {"stable": "NonsolvableDepsInStable", "dev": "NonsolvableDepsInDev", "exp": "NonsolvableDepsInExp"}
-SUFFIXES = ["alpha", "beta", "pre", "rc", "p"]
 KEYWORDS = ["ProfileError", "ProfileNote", "MetadataError", "StaleCache", "OrphanCache", "MissingCache", "NonexistentDeps",
             "NonsolvableDepsInStable", "NonsolvableDepsInDev", "NonsolvableDepsInExp", "UnsatisfiableRequiredUse",
             "UnstatedIuse", "VisibleVcsPkg"]
-
-VERSION = r"\d+(?:\.\d+)*[a-z]?(?:_(?:alpha|beta|pre|rc|p)\d*)*(?:-r\d+)?"
-SLOT = r"[A-Za-z0-9_][A-Za-z0-9+_.-]*"
-FLAG = r"[A-Za-z0-9][A-Za-z0-9+_@-]*"
-ITEM = r"(?:-?{0}(?:\([+-]\))?|!?{0}(?:\([+-]\))?[=?])".format(FLAG)
-INCREMENTAL = {"USE", "USE_EXPAND", "USE_EXPAND_HIDDEN", "CONFIG_PROTECT", "CONFIG_PROTECT_MASK", "IUSE_IMPLICIT",
-               "USE_EXPAND_IMPLICIT", "USE_EXPAND_UNPREFIXED", "ENV_UNSET"}
-
-
-def is_whole(pattern, text):
-    return re.fullmatch(pattern, text) is not None
-
-
-def is_category(text):
-    return is_whole(SLOT, text)
-
-
-def is_flag(text):
-    return is_whole(FLAG, text)
-
-
-def is_package(text):
-    return is_whole(r"[A-Za-z0-9_][A-Za-z0-9+_-]*", text) and not is_whole(".*-" + VERSION, text)
-
-
-def is_version(text):
-    return is_whole(VERSION, text) and not re.search(r"\d{19}", text)
-
-
-def split_pf(text):
-    """Name and version; a text that can be divided can be so at one hyphen alone."""
-    for at, byte in enumerate(text):
-        if byte == "-" and is_package(text[:at]) and is_version(text[at + 1:]):
-            return text[:at], text[at + 1:]
-    return None
-
-
-# Versions
-
-def parts(version):
-    found = re.fullmatch(r"(\d+)((?:\.\d+)*)([a-z]?)((?:_(?:alpha|beta|pre|rc|p)\d*)*)(?:-r(\d+))?", version)
-    numbers = [found[1]] + found[2].split(".")[1:]
-    return numbers, found[3], re.findall(r"_(alpha|beta|pre|rc|p)(\d*)", found[4]), found[5]
-
-
-def sign(a, b):
-    return (a > b) - (a < b)
-
-
-def compare_later(a, b):
-    if a[0] == "0" or b[0] == "0":
-        return sign(a.rstrip("0"), b.rstrip("0"))
-    return sign(int(a), int(b))
-
-
-def compare_suffixes(first, second):
-    for (word, number), (other, other_number) in zip(first, second):
-        order = sign(SUFFIXES.index(word), SUFFIXES.index(other)) or sign(int(number or 0), int(other_number or 0))
-        if order:
-            return order
-    if len(first) == len(second):
-        return 0
-    longer, way = (first, 1) if len(first) > len(second) else (second, -1)
-    return way if longer[min(len(first), len(second))][0] == "p" else -way
-
-
-def compare(first, second, with_revision=True):
-    (numbers, letter, suffixes, revision), (others, other_letter, other_suffixes, other_revision) = parts(first), parts(second)
-    order = sign(int(numbers[0]), int(others[0]))
-    for a, b in zip(numbers[1:], others[1:]):
-        order = order or compare_later(a, b)
-    order = order or sign(len(numbers), len(others)) or sign(letter, other_letter) or compare_suffixes(suffixes, other_suffixes)
-    return order or (sign(int(revision or 0), int(other_revision or 0)) if with_revision else 0)
-
-
-def pieces(version):
-    numbers, letter, suffixes, revision = parts(version)
-    yield "first", int(numbers[0])
-    for number in numbers[1:]:
-        yield "later", number
-    if letter:
-        yield "letter", letter
-    for word, number in suffixes:
-        yield "suffix", (word, int(number or 0))
-    if revision is not None:
-        yield "revision", int(revision)
-
-
-def begins(front, version):
-    front, version = list(pieces(front)), list(pieces(version))
-    return len(front) <= len(version) and all(
-        kind == other and (compare_later(a, b) == 0 if kind == "later" else a == b)
-        for (kind, a), (other, b) in zip(front, version))
-
-
-# Atoms
-
-def read_item(text):
-    """The flag, what is asked of it, and what an absent one counts as."""
-    sign, flag, missing, mark = re.fullmatch(r"([-!]?)([A-Za-z0-9][A-Za-z0-9+_@-]*)(?:\(([+-])\))?([=?]?)", text).groups()
-    ask = {"": "on", "-": "off", "=": "same", "!=": "opposite", "?": "on if", "!?": "off if not"}[sign + mark]
-    return flag, ask, {None: None, "+": True, "-": False}[missing]
-
-
-def asked(ask, parent):
-    """Whether the flag has to be on or off, given the parent's; or nothing."""
-    return {"on": True, "off": False, "same": parent, "opposite": not parent, "on if": True if parent else None,
-            "off if not": None if parent else False}[ask]
-
-
-def read_atom(text):
-    found = re.fullmatch(r"(!!|!|)(<=|>=|<|>|=|~|)([^\[\]]*)(\[[^\[\]]*\])?", text)
-    if not found:
-        return None
-    block, op, rest, items = found.groups()
-    name, colon, slot = rest.partition(":")
-    if colon and not is_whole(r"\*|=|{0}(?:/{0})?=?".format(SLOT), slot):
-        return None
-    if items and not all(is_whole(ITEM, item) for item in items[1:-1].split(",")):
-        return None
-    category, slash, name = name.partition("/")
-    if not slash or not is_category(category):
-        return None
-    atom = {"text": text, "block": block, "op": op, "slot": slot, "items": [read_item(item) for item in items[1:-1].split(",")] if items else [],
-            "version": None}
-    if op:
-        star = op == "=" and name.endswith("*")
-        divided = split_pf(name[:-1] if star else name)
-        if not divided:
-            return None
-        name, atom["version"] = divided
-        atom["op"] = op + "*" if star else op
-    elif not is_package(name):
-        return None
-    atom["name"] = category + "/" + name
-    return atom
-
-
-def matches(atom, package):
-    if atom["name"] != package["name"]:
-        return False
-    op, version = atom["op"], atom["version"]
-    if op == "=*" and not begins(version, package["version"]):
-        return False
-    if op == "~" and compare(package["version"], version, with_revision=False) != 0:
-        return False
-    if op in ("<", "<=", "=", ">=", ">"):
-        order = compare(package["version"], version)
-        if not {"<": order < 0, "<=": order <= 0, "=": order == 0, ">=": order >= 0, ">": order > 0}[op]:
-            return False
-    slot, _, sub = atom["slot"].rstrip("=").rstrip("*").partition("/")
-    return slot in ("", package["slot"]) and sub in ("", package["sub"])
-
-
-# Expressions: ("atom", atom), ("flag", flag, negated), ("if", flag, negated, trees), ("all" | "any" | "one" | "most", trees)
-
-def tokens_of(text):
-    return [token for token in re.split("[ \t\r\n]+", text) if token]
-
-
-class Broken(Exception):
-    pass
-
-
-def read_group(tokens, at, depth, required):
-    """The trees from a place on, up to a `)` or the end, and the place behind them."""
-    trees = []
-    while at < len(tokens) and tokens[at] != ")":
-        token, head = tokens[at], None
-        if token == "(":
-            head, at = ("all",), at - 1
-        elif token == "||" or token in ("^^", "??") and required:
-            head = ({"||": "any", "^^": "one", "??": "most"}[token],)
-        elif token.endswith("?"):
-            head = ("if", token[:-1].lstrip("!") if token[:1] == "!" else token[:-1], token[:1] == "!")
-            if not is_flag(head[1]) or token[:2] == "!!":
-                raise Broken
-        elif required:
-            flag = token[1:] if token[:1] == "!" else token
-            if not is_flag(flag):
-                raise Broken
-            trees.append(("flag", flag, token[:1] == "!"))
-        else:
-            atom = read_atom(token)
-            if not atom:
-                raise Broken
-            trees.append(("atom", atom))
-        at += 1
-        if head:
-            if tokens[at:at + 1] != ["("] or depth == 64:
-                raise Broken
-            inside, at = read_group(tokens, at + 1, depth + 1, required)
-            if at == len(tokens):
-                raise Broken
-            trees.append(head + (inside,))
-            at += 1
-    return trees, at
-
-
-def read_expression(text, required):
-    tokens = tokens_of(text)
-    try:
-        trees, at = read_group(tokens, 0, 0, required)
-    except Broken:
-        return None
-    return trees if at == len(tokens) and len(tokens) <= 100000 else None
-
-
-def print_tree(tree):
-    kind = tree[0]
-    if kind == "atom":
-        return tree[1]["text"]
-    signed = ("!" if tree[2] else "") + tree[1] if kind in ("flag", "if") else ""
-    if kind == "flag":
-        return signed
-    head = {"if": signed + "? ", "all": "", "any": "|| ", "one": "^^ ", "most": "?? "}[kind]
-    return head + "( " + "".join(print_tree(child) + " " for child in tree[-1]) + ")"
-
-
-def holds(tree, on, met, empty):
-    kind = tree[0]
-    if kind == "atom":
-        return met(tree[1])
-    if kind == "flag":
-        return on(tree[1]) != tree[2]
-    if kind == "if" and on(tree[1]) == tree[2]:
-        return True
-    if kind in ("all", "if"):
-        return all(holds(child, on, met, empty) for child in tree[-1])
-    members = [child for child in tree[1] if child[0] != "if" or on(child[1]) != child[2]]
-    values = [holds(member, on, met, empty) for member in members]
-    if kind == "most":
-        return sum(values) <= 1
-    if not values:
-        return empty
-    return any(values) if kind == "any" else sum(values) == 1
-
-
-def walk(trees):
-    for tree in trees:
-        yield tree
-        if isinstance(tree[-1], list):
-            yield from walk(tree[-1])
-
-
-def wanted_atoms(trees):
-    return [tree[1] for tree in walk(trees) if tree[0] == "atom" and not tree[1]["block"]]
-
-
-def mentions(trees):
-    flags = {tree[1] for tree in walk(trees) if tree[0] in ("flag", "if")}
-    return flags | {flag for atom in wanted_atoms(trees) for flag, ask, _ in atom["items"] if ask not in ("on", "off")}
-
-
-def fault_of(text, required):
-    """The number of the first token at fault, and how; or nothing."""
-    opened, wants = 0, False
-    tokens = tokens_of(text)
-    for number, token in enumerate(tokens, 1):
-        heads, is_if = ("||", "^^", "??"), token.endswith("?") and token != "??"
-        flag = token[1:] if token[:1] == "!" else token
-        if number > 100000:
-            return number, "too many tokens"
-        if token == "(" and opened == 64:
-            return number, "depth"
-        if token == ")" and opened == 0 or wants and token != "(":
-            return number, "stray token"
-        if token in ("^^", "??") and not required:
-            return number, "not allowed here"
-        if token not in ("(", ")") + heads:
-            if is_if and not is_flag(flag[:-1]) or required and not is_if and not is_flag(flag):
-                return number, "bad flag"
-            if not is_if and not required and not read_atom(token):
-                return number, "bad atom"
-        opened += {"(": 1, ")": -1}.get(token, 0)
-        wants = token in heads or is_if
-    return (len(tokens) + 1, "unclosed group") if opened or wants else None
-
-
-# Files
-
-class Files:
-    """A map of files as text, and what lies below a path."""
-
-    def __init__(self, files):
-        self.texts = {path: content.decode("latin-1") for path, content in files.items()}
-        self.below = {}
-        for path in files:
-            steps = path.split("/")
-            for at in range(1, len(steps)):
-                self.below.setdefault("/".join(steps[:at]), set()).add(steps[at])
-
-    def names(self, path):
-        return sorted(name for name in self.below.get(path, ()) if all("!" <= byte <= "~" for byte in name))
-
-    def text(self, path):
-        return self.texts.get(path, "")
-
-    def paths_at(self, path):
-        """The file, or the files of a file directory."""
-        inside = [path + "/" + name for name in self.names(path) if name[0] != "."]
-        return [path] if path in self.texts else [file for file in inside if file in self.texts]
-
-    def all_at(self, path):
-        return [self.texts[file] for file in self.paths_at(path)]
-
-
-def rows_of(text):
-    """The words of each line, up to a comment."""
-    for line in text.split("\n"):
-        words = [word for word in re.split("[ \t\r]+", line) if word]
-        yield list(itertools.takewhile(lambda word: word[0] != "#", words))
-
-
-def relative(word):
-    word = word[:-1] if word.endswith("/") else word
-    steps = word.split("/")
-    return steps if all(step and all("!" <= byte <= "~" for byte in step) for step in steps) else None
-
-
-def resolve(folder, steps):
-    path = folder.split("/")
-    for step in steps:
-        if step == "..":
-            if not path:
-                return None
-            path.pop()
-        elif step != ".":
-            path.append(step)
-    return "/".join(path) or None
-
-
-# make.defaults
-
-class Unreadable(Exception):
-    pass
-
-
-def read_value(text, at, value_of):
-    """A value from a place on, and the place behind it."""
-    value, quote = "", None
-    while True:
-        byte = text[at:at + 1]
-        if byte == "":
-            if quote:
-                raise Unreadable
-            return value, at
-        if quote == "'":
-            if byte == "'":
-                quote = None
-            else:
-                value += byte
-            at += 1
-            continue
-        name = re.compile(r"\$(?:\{([A-Za-z_][A-Za-z0-9_]*)\}|([A-Za-z_][A-Za-z0-9_]*))").match(text, at)
-        following = text[at + 1:at + 2]
-        if name:
-            value, at = value + value_of(name[1] or name[2]), name.end()
-        elif byte == "\\" and following == "\n":
-            at += 2
-        elif byte == "\\" and following and (quote is None or following in '"\\$'):
-            value, at = value + following, at + 2
-        elif byte == '"':
-            quote, at = (None if quote else '"'), at + 1
-        elif byte == "'" and quote is None:
-            quote, at = "'", at + 1
-        elif quote is None and byte in BLANKS:
-            return value, at
-        else:
-            value, at = value + byte, at + 1
-
-
-def with_defaults(text, before):
-    values, at = {}, 0
-
-    def value_of(name):
-        if name in values:
-            return values[name]
-        known = before.get(name, "")
-        return known if isinstance(known, str) else " ".join(known)
-
-    while True:
-        at = re.compile(r"(?:[ \t\r\n]|#[^\n]*)*").match(text, at).end()
-        name = re.compile(r"([A-Za-z_][A-Za-z0-9_]*)=").match(text, at)
-        if not name:
-            break
-        try:
-            value, at = read_value(text, name.end(), value_of)
-        except Unreadable:
-            break
-        values[name[1]] = value
-    after = dict(before)
-    for name, value in values.items():
-        if name not in INCREMENTAL:
-            after[name] = value
-            continue
-        words = list(after.get(name, []))
-        for word in tokens_of(value):
-            if word == "-*":
-                words = []
-            elif word[0] == "-":
-                words = [other for other in words if other != word[1:]]
-            elif word not in words:
-                words.append(word)
-        after[name] = words
-    return after
-
-
-def bad_assignment(text):
-    """The line of the first assignment that can't be read, or nothing."""
-    at = 0
-    while True:
-        at = re.compile(r"(?:[ \t\r\n]|#[^\n]*)*").match(text, at).end()
-        if at == len(text):
-            return None
-        line = text.count("\n", 0, at) + 1
-        name = re.compile(r"([A-Za-z_][A-Za-z0-9_]*)=").match(text, at)
-        try:
-            if not name:
-                return line
-            at = read_value(text, name.end(), lambda _: "")[1]
-        except Unreadable:
-            return line
-
-
-def words_in(variables, name):
-    known = variables.get(name, "")
-    return tokens_of(known) if isinstance(known, str) else known
-
-
-# Profiles
-
-class Fault(Exception):
-    """Where a stack is at fault: a path, a line, and how."""
-
-
-def eapi_of(files, folder):
-    words = [word for row in rows_of(files.text(folder + "/eapi")) for word in row]
-    if words and words[0] not in list("012345678"):
-        raise Fault(folder + "/eapi", 1, "bad eapi")
-    return int(words[0]) if words else 0
-
-
-def is_parent(row):
-    return len(row) == 1 and ":" not in row[0] and bool(relative(row[0]))
-
-
-def stack_of(files, folder, above=()):
-    eapi_of(files, folder)
-    stack = []
-    for number, row in enumerate(rows_of(files.text(folder + "/parent")), 1):
-        if not is_parent(row):
-            continue
-        parent = resolve(folder, relative(row[0]))
-        if parent not in files.below:
-            raise Fault(folder + "/parent", number, "missing parent")
-        if parent in above + (folder,):
-            raise Fault(folder + "/parent", number, "cycle")
-        stack += stack_of(files, parent, above + (folder,))
-    return stack + [folder]
-
-
-def plain_atom(word):
-    atom = read_atom(word)
-    return atom if atom and not atom["block"] and not atom["items"] else None
-
-
-def flags_in(words):
-    signed = [(word[1:], False) if word[0] == "-" else (word, True) for word in words]
-    return signed if all(is_flag(flag) for flag, _ in signed) else []
-
-
-def rules_of(files, folder):
-    forms = ["use", "use.stable", "package.use", "package.use.stable"]
-    for form in forms if eapi_of(files, folder) >= 5 else forms[::2]:
-        for effect in ("mask", "force"):
-            for text in files.all_at("%s/%s.%s" % (folder, form, effect)):
-                for row in rows_of(text):
-                    atom = plain_atom(row[0]) if row and form[0] == "p" else None
-                    if form[0] == "p" and not atom or form[0] == "u" and len(row) != 1:
-                        continue
-                    for flag, on in flags_in(row[1:] if atom else row):
-                        yield {"effect": effect, "stable": "stable" in form, "atom": atom, "flag": flag, "on": on}
-
-
-def with_masks(files, path, masks):
-    for text in files.all_at(path):
-        for row in rows_of(text):
-            if len(row) == 1 and row[0][0] == "-":
-                masks = [atom for atom in masks if atom["text"] != row[0][1:]]
-            elif len(row) == 1 and plain_atom(row[0]):
-                masks = masks + [plain_atom(row[0])]
-    return masks
-
-
-def read_profile(files, line):
-    folder = resolve("profiles", relative(line["path"]))
-    if folder not in files.below:
-        raise Fault("profiles/profiles.desc", line["number"], "missing profile")
-    variables, masks, rules = {}, with_masks(files, "profiles/package.mask", []), []
-    for folder in stack_of(files, folder):
-        variables = with_defaults(files.text(folder + "/make.defaults"), variables)
-        masks = with_masks(files, folder + "/package.mask", masks)
-        rules += rules_of(files, folder)
-    implicit = set(words_in(variables, "IUSE_IMPLICIT"))
-    expanded = set(words_in(variables, "USE_EXPAND_IMPLICIT"))
-    for name in expanded & set(words_in(variables, "USE_EXPAND")):
-        implicit |= {name.lower() + "_" + word for word in words_in(variables, "USE_EXPAND_VALUES_" + name)}
-    for name in expanded & set(words_in(variables, "USE_EXPAND_UNPREFIXED")):
-        implicit |= set(words_in(variables, "USE_EXPAND_VALUES_" + name))
-    return dict(line, masks=masks, rules=rules, implicit=implicit)
-
-
-def is_desc(row):
-    return len(row) >= 3 and is_whole(r"[A-Za-z0-9_][A-Za-z0-9_-]*", row[0]) and bool(relative(row[1])) and row[2] in STATUSES
-
-
-def desc_lines(files):
-    seen = set()
-    for number, row in enumerate(rows_of(files.text("profiles/profiles.desc")), 1):
-        if is_desc(row) and (row[0], row[1]) not in seen:
-            seen.add((row[0], row[1]))
-            yield {"number": number, "arch": row[0], "path": row[1], "status": row[2]}
-
-
-def read_profiles(files):
-    """The profiles, and the places of those with a fault."""
-    profiles, faults = [], []
-    for line in desc_lines(files):
-        try:
-            profiles.append(read_profile(files, line))
-        except Fault as fault:
-            faults.append(fault.args)
-    return profiles, faults
-
-
-def bad_mask(row):
-    return None if len(row) == 1 and (row[0][0] == "-" or plain_atom(row[0])) else "bad atom"
-
-
-def bad_flags(row):
-    return None if len(row) == 1 and flags_in(row) else "bad flag"
-
-
-def bad_package_flags(row):
-    if not plain_atom(row[0]):
-        return "bad atom"
-    return None if len(row) > 1 and flags_in(row[1:]) else "bad flag"
-
-
-def reached(files):
-    """The folders that profiles come to by their parents, whatever is wrong with them."""
-    found, waiting = [], [resolve("profiles", relative(line["path"])) for line in desc_lines(files)]
-    while waiting:
-        folder = waiting.pop()
-        if folder in files.below and folder not in found:
-            found.append(folder)
-            waiting += [resolve(folder, relative(row[0])) for row in rows_of(files.text(folder + "/parent")) if is_parent(row)]
-    return found
-
-
-def bad_lines(files):
-    """The path, the number and what is wrong of each bad line of the files that are read."""
-    counted = {(line["arch"], line["path"]): line["number"] for line in desc_lines(files)}
-    for number, row in enumerate(rows_of(files.text("profiles/profiles.desc")), 1):
-        if row and not is_desc(row) and counted.get(tuple(row[:2]), number) >= number:
-            yield "profiles/profiles.desc", number, "bad line"
-    forms = [("profiles/categories", lambda row: None if len(row) == 1 and is_category(row[0]) else "bad category"),
-             ("profiles/package.mask", bad_mask)]
-    for folder in reached(files):
-        forms += [(folder + "/parent", lambda row: None if is_parent(row) else "bad line"), (folder + "/package.mask", bad_mask)]
-        for name in ("mask", "force", "stable.mask", "stable.force"):
-            forms += [(folder + "/use." + name, bad_flags), (folder + "/package.use." + name, bad_package_flags)]
-    for path, test in forms:
-        alone = path.endswith(("/categories", "/parent"))
-        for file in [path] * (path in files.texts) if alone else files.paths_at(path):
-            for number, row in enumerate(rows_of(files.texts[file]), 1):
-                if row and test(row):
-                    yield file, number, test(row)
-    for folder in reached(files):
-        line = bad_assignment(files.text(folder + "/make.defaults"))
-        if line:
-            yield folder + "/make.defaults", line, "bad assignment"
+# Those of a lint; in the order of reports they come behind the others.
+LINT_KEYWORDS = ["RequiredUseDefaults", "RedundantVersion", "UnknownProfilePackage"]
 
 
 # Entries
@@ -608,16 +26,21 @@ def digest_of(text):
     return hashlib.md5(text.encode("latin-1")).hexdigest()
 
 
+def eclasses_of(value):
+    """The pairs of a name and a digest of a list of eclasses; nothing where it has another form."""
+    words = value.split("\t") if value else []
+    is_good = len(words) % 2 == 0 and all(map(is_part, words[::2])) and all(is_whole("[0-9A-Fa-f]{32}", word) for word in words[1::2])
+    return list(zip(words[::2], words[1::2])) if is_good else None
+
+
 def stale(files, category, name, pf, values):
     """Why an entry with an ebuild isn't current, or nothing."""
-    digest = values("_md5_").lower()
-    if digest != digest_of(files.texts["%s/%s/%s.ebuild" % (category, name, pf)]):
+    if values("_md5_").lower() != digest_of(files.texts["%s/%s/%s.ebuild" % (category, name, pf)]):
         return "ebuild"
-    words = values("_eclasses_").split("\t") if values("_eclasses_") else []
-    named = [word for word in words[::2] if is_whole(r"[!-.0-~]+", word) and word not in (".", "..")]
-    if len(words) % 2 or len(named) != len(words[::2]) or not all(is_whole("[0-9A-Fa-f]{32}", word) for word in words[1::2]):
+    eclasses = eclasses_of(values("_eclasses_"))
+    if eclasses is None:
         return "eclasses"
-    for eclass, digest in zip(words[::2], words[1::2]):
+    for eclass, digest in eclasses:
         path = "eclass/%s.eclass" % eclass
         if path not in files.texts or digest.lower() != digest_of(files.texts[path]):
             return "eclass " + eclass
@@ -655,11 +78,18 @@ def package_of(category, name, version, pf, values):
     iuse = tokens_of(values("IUSE"))
     package = {"category": category, "name": category + "/" + name, "version": version, "pf": category + "/" + pf,
                "eapi": int(values("EAPI")), "slot": slot, "sub": sub or slot, "keywords": tokens_of(values("KEYWORDS")),
-               "iuse": {word.lstrip("+-") for word in iuse}, "live": "live" in tokens_of(values("PROPERTIES"))}
+               "iuse": {word.lstrip("+-") for word in iuse}, "plus": {word[1:] for word in iuse if word[0] == "+"},
+               "live": "live" in tokens_of(values("PROPERTIES")), "texts": {key: values(key) for key in ["REQUIRED_USE"] + CLASSES}}
     for key in ["REQUIRED_USE"] + CLASSES:
         package[key] = read_expression(values(key), key == "REQUIRED_USE")
         assert (package[key] is None) == (fault_of(values(key), key == "REQUIRED_USE") is not None)
     return package
+
+
+@functools.lru_cache(maxsize=4096)
+def value_of(text, key):
+    """The value of a key in an entry: what stands behind it in its first line, or nothing."""
+    return next((line[len(key) + 1:] for line in text.split("\n") if line.startswith(key + "=")), "")
 
 
 def read_pf(files, category, pf, reports):
@@ -671,7 +101,7 @@ def read_pf(files, category, pf, reports):
         reports.append({"subject": subject, "keyword": keyword, "detail": detail})
 
     def values(key):
-        return next((line[len(key) + 1:] for line in text.split("\n") if line.startswith(key + "=")), "")
+        return value_of(text, key)
 
     has_ebuild = "%s/%s/%s.ebuild" % (category, name, pf) in files.texts
     if text is None:
@@ -708,10 +138,13 @@ def place_of(package):
     return (package["category"], package["name"], functools.cmp_to_key(compare)(package["version"]), package["pf"])
 
 
-def read_packages(files, reports):
+def categories_of(files):
     rows = rows_of(files.text("profiles/categories"))
-    categories = {row[0] for row in rows if len(row) == 1 and is_category(row[0])}
-    read = [read_pf(files, category, pf, reports) for category in categories for pf in pfs_of(files, category)]
+    return sorted({row[0] for row in rows if len(row) == 1 and is_category(row[0])})
+
+
+def read_packages(files, reports):
+    read = [read_pf(files, category, pf, reports) for category in categories_of(files) for pf in pfs_of(files, category)]
     return sorted((package for package in read if package), key=place_of)
 
 
@@ -722,11 +155,34 @@ def is_accepted(package, profile, level):
 
 
 def is_visible(package, profile, level):
-    return is_accepted(package, profile, level) and not any(matches(atom, package) for atom in profile["masks"])
+    return is_accepted(package, profile, level) and not any(matches(atom, package) for _, atom in listed(profile, "masks", name_of).get(package["name"], []))
+
+
+def name_of(atom):
+    return atom["name"] if atom else ""
+
+
+def named_flag(rule):
+    return rule["flag"], name_of(rule["atom"])
+
+
+def listed(profile, what, key):
+    """What a profile has of this kind by a key, each with its place; made once."""
+    if (what, key) not in profile:
+        found = profile[what, key] = {}
+        for at, one in enumerate(profile[what]):
+            found.setdefault(key(one), []).append((at, one))
+    return profile[what, key]
+
+
+def rules_on(profile, flag, name):
+    """The rules on a flag for every package, and for some of this name, each with its place, in order."""
+    rules = listed(profile, "rules", named_flag)
+    return sorted(rules.get((flag, ""), []) + rules.get((flag, name), []), key=lambda pair: pair[0])
 
 
 def level_of(package, profile):
-    for level in ("stable", "testing"):
+    for level in ("testing",) if profile["testing"] else ("stable", "testing"):
         if is_accepted(package, profile, level):
             return level if is_visible(package, profile, level) else None
     return None
@@ -736,9 +192,9 @@ def state(package, profile, level, flag):
     if flag not in package["iuse"] | profile["implicit"]:
         return "absent"
     last = {}
-    for rule in profile["rules"]:
-        restricted = level == "stable" and profile["arch"] in package["keywords"]
-        if rule["flag"] == flag and (restricted or not rule["stable"]) and (not rule["atom"] or matches(rule["atom"], package)):
+    restricted = level == "stable" and profile["arch"] in package["keywords"]
+    for _, rule in rules_on(profile, flag, package["name"]):
+        if (restricted or not rule["stable"]) and (not rule["atom"] or matches(rule["atom"], package)):
             last[rule["effect"]] = rule["on"]
     return "off" if last.get("mask") else "on" if last.get("force") else "free"
 
@@ -756,33 +212,54 @@ def items_met(atom, package, profile, level, on):
     return True
 
 
-def least_of(package, profile, level, key, packages):
-    """The free flags of a question, and the least assignment of them that is asked for, with the first tree that fails."""
-    required, trees = package["REQUIRED_USE"], package[key]
-    mentioned = mentions(required) | mentions(trees)
-    flags = sorted(flag for flag in mentioned if state(package, profile, level, flag) == "free")
-    shown = [other for other in packages if is_visible(other, profile, level)]
-    empty = package["eapi"] < 7
-    for bits in itertools.product([False, True], repeat=len(flags)):
-        assignment = dict(zip(flags, bits))
+def shown(packages, profile, level):
+    """The packages of each name that a profile shows at a level."""
+    found = {}
+    for package in packages:
+        if is_visible(package, profile, level):
+            found.setdefault(package["name"], []).append(package)
+    return found
 
-        def on(flag):
-            return assignment[flag] if flag in assignment else state(package, profile, level, flag) == "on"
 
-        def met(atom):
-            return atom["block"] != "" or any(matches(atom, other) and items_met(atom, other, profile, level, on) for other in shown)
+def flags_of(package, profile, level, key):
+    """The flags of a query, in byte order."""
+    mentioned = mentions(package["REQUIRED_USE"]) | mentions(package[key])
+    return sorted(flag for flag in mentioned if state(package, profile, level, flag) == "free")
 
-        if all(holds(tree, on, met, empty) for tree in required):
+
+def holding(package, profile, level, visible, assignment):
+    """Whether a tree holds where the flags of a query are so."""
+    def on(flag):
+        return assignment[flag] if flag in assignment else state(package, profile, level, flag) == "on"
+
+    known = {}
+
+    def met(atom):
+        if atom["text"] not in known:
+            known[atom["text"]] = atom["block"] != "" or any(
+                matches(atom, other) and items_met(atom, other, profile, level, on) for other in visible.get(atom["name"], []))
+        return known[atom["text"]]
+
+    return lambda tree: holds(tree, on, met, package["eapi"] < 7)
+
+
+def least_of(package, profile, level, key, visible):
+    """The first assignment of a query's flags that is asked for, with the first tree that fails: the value that IUSE prefers comes
+    before the other, flag by flag."""
+    flags = flags_of(package, profile, level, key)
+    for bits in itertools.product(*([flag in package["plus"], flag not in package["plus"]] for flag in flags)):
+        is_true = holding(package, profile, level, visible, dict(zip(flags, bits)))
+        if all(is_true(tree) for tree in package["REQUIRED_USE"]):
             use = " ".join(("" if bit else "-") + flag for flag, bit in zip(flags, bits))
             if key == "REQUIRED_USE":
                 return use, None
-            for tree in trees:
-                if not holds(tree, on, met, empty):
+            for tree in package[key]:
+                if not is_true(tree):
                     return use, tree
     return None
 
 
-def case_reports(package, profile, level, packages):
+def case_reports(package, profile, level, visible):
     base = {"subject": package, "profile": profile, "level": level}
     keys = [key for key in ["REQUIRED_USE"] + CLASSES if not lacks(package["eapi"], key) and package[key] is not None]
     for key in keys:
@@ -792,29 +269,31 @@ def case_reports(package, profile, level, packages):
     if package["live"]:
         yield dict(base, keyword="VisibleVcsPkg")
     for key in keys if package["REQUIRED_USE"] is not None else []:
-        least = least_of(package, profile, level, key, packages)
+        least = least_of(package, profile, level, key, visible)
         if key == "REQUIRED_USE" and not least:
             yield dict(base, keyword="UnsatisfiableRequiredUse", detail=" ".join(print_tree(tree) for tree in package[key]))
         if key != "REQUIRED_USE" and least:
             yield dict(base, keyword=STATUSES[profile["status"]], use=least[0], detail=print_tree(least[1]), **{"class": key})
 
 
-def package_reports(package, profiles, packages):
+def package_reports(package, contexts, names, cases):
+    """The reports of a package; `contexts` has of each profile and level what it shows, `names` the packages of each name, and `cases`
+    answers as case_reports does."""
     for key in CLASSES:
         if not lacks(package["eapi"], key) and package[key] is not None:
             for atom in wanted_atoms(package[key]):
-                if not any(matches(atom, other) for other in packages):
+                if not any(matches(atom, other) for other in names.get(atom["name"], [])):
                     yield {"subject": package, "keyword": "NonexistentDeps", "class": key, "detail": atom["text"]}
-    for profile in profiles:
+    for profile, visible in contexts:
         level = level_of(package, profile)
         if level:
-            yield from case_reports(package, profile, level, packages)
+            yield from cases(package, profile, level, visible[level])
 
 
 # Texts
 
 def order_of(report):
-    keyword = KEYWORDS.index(report["keyword"])
+    keyword = (KEYWORDS + LINT_KEYWORDS).index(report["keyword"])
     detail = report.get("detail") or ""
     if "path" in report:
         return 0, report["path"], report["line"], keyword, detail
@@ -843,20 +322,56 @@ def object_of(report):
     return json.dumps(value, sort_keys=True, separators=(",", ":")) + "\n"
 
 
-def scan(content, keywords=None, profiles=None, as_json=False):
-    files = Files(content)
-    for path in ("profiles/profiles.desc", "profiles/categories"):
-        if path not in files.texts:
-            return 6, "", "gvis: not a repository: %s\n" % path
-    known, faults = read_profiles(files)
-    reports = [{"path": path, "line": line, "keyword": "ProfileError", "detail": detail} for path, line, detail in faults]
-    reports += [{"path": path, "line": line, "keyword": "ProfileNote", "detail": detail} for path, line, detail in bad_lines(files)]
-    packages = read_packages(files, reports)
+def profiles_of(files):
+    """The profiles, and what is told of their files."""
+    profiles, faults = read_profiles(files)
+    told = [{"path": path, "line": line, "keyword": "ProfileError", "detail": detail} for path, line, detail in faults]
+    return profiles, told + [{"path": path, "line": line, "keyword": "ProfileNote", "detail": detail} for path, line, detail in bad_lines(files)]
+
+
+def repository_of(files, reports=None):
+    """The packages and the profiles, and what is told of them besides."""
+    reports = [] if reports is None else reports
+    profiles, told = profiles_of(files)
+    reports += told
+    return read_packages(files, reports), profiles
+
+
+def judging(packages, known, cases=case_reports, judged=None):
+    """The reports of all packages in all profiles, or of those that are judged among them."""
+    contexts = [(profile, {level: shown(packages, profile, level) for level in ("stable", "testing")}) for profile in known]
+    names = {}
     for package in packages:
-        reports += package_reports(package, known, packages)
+        names.setdefault(package["name"], []).append(package)
+    return [report for package in (packages if judged is None else judged) for report in package_reports(package, contexts, names, cases)]
+
+
+def text_of(files, keywords=None, profiles=None, as_json=False):
+    """The text of a scan of these files, which are a repository."""
+    reports = []
+    reports += judging(*repository_of(files, reports))
+    return text_of_reports(reports, keywords, profiles, as_json)
+
+
+def text_of_reports(reports, keywords=None, profiles=None, as_json=False):
     taken = [report for report in sorted(reports, key=order_of)
              if (keywords is None or report["keyword"] in keywords)
              and (profiles is None or not report.get("profile") or report["profile"]["path"] in profiles)]
     texts = [object_of(report) if as_json else line_of(report) for report in taken]
-    out = "".join(text for text, _ in itertools.groupby(texts))
+    return "".join(text for text, _ in itertools.groupby(texts))
+
+
+def refused(files):
+    """How a run over files ends that are no repository."""
+    for path in ("profiles/profiles.desc", "profiles/categories"):
+        if path not in files.texts:
+            return 6, "", "gvis: not a repository: %s\n" % path
+    return None
+
+
+def scan(content, keywords=None, profiles=None, as_json=False):
+    files = Files(content)
+    if refused(files):
+        return refused(files)
+    out = text_of(files, keywords, profiles, as_json)
     return (1 if out else 0), out, ""

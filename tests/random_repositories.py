@@ -1,24 +1,21 @@
-#!/usr/bin/env python3
-"""Compares the built program with a plain one on random repositories.
+"""The built program beside a plain one on random repositories.
 
-    random_repositories.py BINARY FIRST LAST
-
-For each number from FIRST up to LAST a small repository is drawn from it, judged by tests/plain.py, written to a folder and
-scanned by BINARY, which then has to accept its own report by its certificates, and refuse another one at the first byte that
-differs. Prints the first repository on which the two differ, and last how many are alike. Exit status 1 where one differed.
+For each number a small repository is drawn from it, judged by tests/plain.py, written to a folder and scanned by the program, which
+then has to accept its own report by its certificates, and refuse another one at the first byte that differs. The gates of the
+queries that its file answers are those of the plain program, in order of first use.
 """
 import hashlib
 import json
 import os
 import random
 import re
-import subprocess
-import sys
-import tempfile
 
-sys.dont_write_bytecode = True
-import plain  # noqa: E402
+import backing
+import plain
+import plain_run
+from common import bytes_of, named, put, put_files, run
 
+NUMBERS = range(200)
 VERSIONS = ["1", "1.0", "1.00", "1.01", "1.010", "1.1", "1.10", "1.9", "1a", "1_rc", "1_p", "1_p0", "1-r0", "1-r1", "2",
             "1.2_alpha3-r2", "01"]
 FLAGS = list("abcde") + ["k_a", "k_b", "v"]
@@ -74,9 +71,12 @@ def draw_defaults(draw):
     lines = ['IUSE_IMPLICIT="v"', "IUSE_IMPLICIT='a -e'", 'USE_EXPAND="K"', "USE_EXPAND_IMPLICIT=K", "USE_EXPAND_VALUES_K='a b'",
              'USE_EXPAND_UNPREFIXED="U"', 'USE_EXPAND_IMPLICIT="K U"', 'USE_EXPAND_VALUES_U="d ${X} e"', "X=b\\ c", "X=$X$X",
              'IUSE_IMPLICIT="${IUSE_IMPLICIT} c -v"', "USE_EXPAND_IMPLICIT='-* U'", "IUSE_IMPLICIT='-* b'", 'USE_EXPAND_VALUES_K="a\\\n b"', "# X=1", "X=a#b",
-             "A+=1", 'X="']
+             'ACCEPT_KEYWORDS="amd64 ~amd64"', 'ACCEPT_KEYWORDS="-~amd64 ~x86"', "ACCEPT_KEYWORDS='-* amd64'", 'ACCEPT_KEYWORDS="-~${ARCH}"',
+             'ACCEPT_KEYWORDS="$ACCEPT_KEYWORDS ~$ARCH"', "A+=1", 'X="']
+    testing = draw.choice([['ARCH="amd64"', 'ACCEPT_KEYWORDS="${ARCH} ~${ARCH}"'], ['ARCH="x86"', 'ACCEPT_KEYWORDS="${ARCH} ~${ARCH} ~amd64"'],
+                           ['ACCEPT_KEYWORDS="-~amd64"'], ['ACCEPT_KEYWORDS="-~x86 ~arm"']])
     weights = [6] * (len(lines) - 2) + [1, 1]
-    drawn = (known if draw.random() < 0.6 else []) + draw.choices(lines, weights, k=draw.randrange(5))
+    drawn = (known if draw.random() < 0.6 else []) + (testing if draw.random() < 0.6 else []) + draw.choices(lines, weights, k=draw.randrange(5))
     return "".join(line + draw.choice(["\n", " ", "\n\n"]) for line in drawn)
 
 
@@ -141,7 +141,7 @@ def put_entry(draw, files, asks):
         pairs = draw.choice([["one"], ["one", "0" * 32], ["none", digest], ["one", digest, ""]])
     iuse = " ".join(draw.choice(["", "+", "-"]) + flag for flag in draw.sample(FLAGS, draw.randrange(6)))
     lines = ["EAPI=" + draw.choice(list("5678") + ["8"] * 4 + ["4"]), "SLOT=" + draw.choice(["0", "1", "0/2", "1/1", "0"]),
-             "KEYWORDS=" + draw.choice(["amd64", "~amd64", "amd64 x86", "~x86 amd64", "-* x86", "", "amd64 ~~x86"]),
+             "KEYWORDS=" + draw.choice(["amd64", "~amd64", "amd64 x86", "~x86 amd64", "~amd64 x86", "-* x86", "", "amd64 ~~x86"]),
              "IUSE=" + iuse, "PROPERTIES=" + draw.choice(["", "", "", "live", "interactive live"]), "_md5_=" + draw.choice([digest] * 9 + [digest.upper(), "0" * 32]), "_eclasses_=" + "\t".join(pairs)]
     for key in ["REQUIRED_USE"] + plain.CLASSES:
         if draw.random() < 0.5:
@@ -183,94 +183,67 @@ def draw_options(draw):
     return (keywords, profiles, as_json), ["scan"] + [word for part in parts for word in part]
 
 
-def put_files(folder, files):
-    for path, content in files.items():
-        path = os.path.join(folder, path)
-        os.makedirs(os.path.dirname(path), exist_ok=True)
-        with open(path, "wb") as file:
-            file.write(content)
+COUNT = {"lines": 0, "certificates": 0, "profiles that accept testing": 0, "that take it back": 0, "packages with a preferred flag": 0,
+         "with status 0": 0, "with status 1": 0}
 
 
-def scanned(draw, binary, files, words):
-    """How the scan ends, how many certificates it leaves, and how the verifications of its report and of another one end."""
-    with tempfile.TemporaryDirectory() as folder:
-        put_files(os.path.join(folder, "R"), files)
-        done = subprocess.run([binary] + words, cwd=folder, capture_output=True, text=True, timeout=60)
-        with open(os.path.join(folder, "C"), "rb") as file:
-            records = records_of(file.read())
-        verdicts = verified(binary, folder, words, done.stdout.encode()), *other_verdict(draw, binary, folder, words, done.stdout.encode())
-    return (done.returncode, done.stdout, done.stderr), records, verdicts
+def told():
+    return ", ".join(f"{count} {what}" for what, count in COUNT.items())
 
 
 def verified(binary, folder, words, report):
-    """How the verification of a report ends, with the number of questions left out."""
-    put_files(folder, {"P": report})
+    """How the verification of a report ends, with the number of queries left out."""
+    put(folder, "P", report)
     words = ["verify"] + [word for word in words[1:] if word != "--fresh"] + ["--report", "P"]
-    done = subprocess.run([binary] + words, cwd=folder, capture_output=True, text=True, timeout=60)
-    return done.returncode, re.sub("^accepted [0-9]+", "accepted", done.stdout), done.stderr
+    status, out, err = run([binary] + words, cwd=folder)
+    return status, re.sub("^accepted [0-9]+", "accepted", out), err
 
 
-def other_verdict(draw, binary, folder, words, report):
-    """That of a report with a byte changed, a line left out or a byte more; and the one that is wanted."""
+def another(draw, report):
+    """The report with a byte changed, a line left out or a byte more; and the first place where the two differ."""
     lines, place = report.splitlines(keepends=True), draw.randrange(len(report) + 1)
     without = draw.randrange(len(lines)) if lines else 0
     other = draw.choice([
         report[:place] + b"*" + report[place + 1:], b"".join(lines[:without] + lines[without + 1:]), report + b"\n"])
     if other == report:
         other += b"*"
-    at = next((n for n, (a, b) in enumerate(zip(report, other)) if a != b), min(len(report), len(other)))
-    return verified(binary, folder, words, other), (1, "refused: text differs at byte %d\n" % at, "")
+    return other, next((n for n, (a, b) in enumerate(zip(report, other)) if a != b), min(len(report), len(other)))
 
 
-def records_of(content):
-    """The records of a file of certificates, none of which has the gates of another."""
-    assert content[:10] == b"gviscert1\n", content[:10]
-    queries, at = [], 10
-    while at < len(content):
-        parts = []
-        for _ in range(2):
-            size = int.from_bytes(content[at:at + 8], "big")
-            parts.append(content[at + 8:at + 8 + size])
-            at += 8 + size
-        queries.append(parts[0])
-    assert at == len(content) and len(set(queries)) == len(queries)
-    return len(queries)
+def counted(files, repository, want, queries):
+    packages, profiles = repository
+    COUNT["lines"] += want[1].count("\n")
+    COUNT["certificates"] += len(queries)
+    COUNT["profiles that accept testing"] += sum(profile["testing"] for profile in profiles)
+    COUNT["that take it back"] += sum(not profile["testing"] and any(
+        "ACCEPT_KEYWORDS" in files.text(folder + "/make.defaults") and "~" + profile["arch"] in plain.words_in(
+            plain.with_defaults(files.text(folder + "/make.defaults"), {}), "ACCEPT_KEYWORDS")
+        for folder in plain.stack_of(files, plain.resolve("profiles", plain.relative(profile["path"])))) for profile in profiles)
+    COUNT["packages with a preferred flag"] += sum(bool(package["plus"]) for package in packages)
+    COUNT[f"with status {want[0]}"] += 1
 
 
-def compared(draw, binary, files, options, words):
-    """What is wanted, what came, how many certificates, and the verdicts. JSON lines are read by Python."""
-    want = plain.scan(files, *options)
-    got, kept, verdicts = scanned(draw, binary, files, words)
-    if options[2]:
+def compared(number, binary, folder):
+    """What a scan prints, the queries of which it leaves an answer, in their order, and the verdicts on its report and on another one."""
+    draw = random.Random(number)
+    files = draw_repository(draw)
+    (keywords, profiles, as_json), words = draw_options(draw)
+    want, read = plain.scan(files, keywords, profiles, as_json), plain.Files(files)
+    repository = plain.repository_of(read)
+    put_files(os.path.join(folder, "R"), files)
+    got = run([binary] + words, cwd=folder)
+    if as_json:
         for line in got[1].splitlines():
             json.loads(line)
-    return want, got, kept, verdicts
+    kept = bytes_of(folder, "C")
+    queries = [query for query, _ in backing.records(kept)]
+    asked = plain_run.gates_within_limits(read, {"keywords": keywords, "profiles": profiles})
+    other, at = another(draw, got[1].encode())
+    verdicts = verified(binary, folder, words, got[1].encode()), verified(binary, folder, words, other)
+    counted(read, repository, want, queries)
+    return (got, kept[:10], backing.file_of(backing.records(kept)) == kept, queries, *verdicts), (
+        want, b"gviscert2\n", True, list(dict.fromkeys(gates for _, gates in asked)), (0, "accepted\n", ""),
+        (1, "refused: text differs at byte %d\n" % at, ""))
 
 
-def main():
-    binary, first, last = os.path.abspath(sys.argv[1]), int(sys.argv[2]), int(sys.argv[3])
-    lines, records, statuses = 0, 0, {}
-    for number in range(first, last):
-        draw = random.Random(number)
-        files = draw_repository(draw)
-        options, words = draw_options(draw)
-        try:
-            want, got, kept, verdicts = compared(draw, binary, files, options, words)
-        except Exception:
-            print("repository %d, %s:" % (number, " ".join(words)), file=sys.stderr)
-            raise
-        if got != want:
-            print("repository %d, %s: got %r, want %r" % (number, " ".join(words), got, want))
-            return 1
-        accepted, refused, wanted = verdicts
-        if accepted != (0, "accepted\n", "") or refused != wanted:
-            print("repository %d, %s: verified as %r and %r, want %r" % (number, " ".join(words), accepted, refused, wanted))
-            return 1
-        lines, records = lines + want[1].count("\n"), records + kept
-        statuses[want[0]] = statuses.get(want[0], 0) + 1
-    print("%d repositories alike, with %d lines and %d certificates, by status: %s" % (last - first, lines, records, sorted(statuses.items())))
-    return 0
-
-
-if __name__ == "__main__":
-    sys.exit(main())
+CASES = [named(f"repository {number}", compared, number) for number in NUMBERS]

@@ -1,10 +1,4 @@
-#!/usr/bin/env python3
-"""Runs the built program on real folders and files: what the objects in memory can't show.
-
-    real_files.py BINARY
-
-Prints a line for each that went wrong, and last how many passed. Exit status 1 where one went wrong.
-"""
+"""The built program on real folders and files: what the objects in memory can't show."""
 import hashlib
 import os
 import resource
@@ -12,10 +6,8 @@ import shutil
 import signal
 import socket
 import subprocess
-import sys
 
-sys.dont_write_bytecode = True
-from results import tell, tried  # noqa: E402
+from common import HEADER, Untested, bytes_of as content, called, checkout, named, needs, put, run
 
 NOBODY = 65534
 LARGEST = 16_777_216
@@ -23,7 +15,6 @@ MISSING = "app/p-1: NonsolvableDepsInStable: RDEPEND: amd64 base stable: USE=\"\
 
 
 ASKED = ["--keywords", "NonsolvableDepsInStable"]
-HEADER = b"gviscert1\n"
 EBUILD = b"inherit one\n"
 ECLASS = b"# an eclass\n"
 ENTRY = b"EAPI=8\nSLOT=0\nKEYWORDS=amd64\nRDEPEND=x/y\n_md5_=%s\n_eclasses_=one\t%s\n" % (
@@ -40,13 +31,6 @@ def repository(folder):
     put(folder, "metadata/md5-cache/app/p-1", ENTRY)
 
 
-def put(folder, path, content):
-    path = os.path.join(folder, path)
-    os.makedirs(os.path.dirname(path), exist_ok=True)
-    with open(path, "wb") as f:
-        f.write(content)
-
-
 def cut(folder, path):
     path = os.path.join(folder, path)
     shutil.rmtree(path) if os.path.isdir(path) else os.remove(path)
@@ -57,8 +41,7 @@ def make(folder, path):
 
 
 def scan(binary, folder, **more):
-    done = subprocess.run([binary, "scan", folder, "--certs", os.path.join(folder, "C")] + ASKED, capture_output=True, timeout=60, **more)
-    return done.returncode, done.stdout.decode(), done.stderr.decode()
+    return run([binary, "scan", folder, "--certs", os.path.join(folder, "C")] + ASKED, **more)
 
 
 def a_file_and_an_absent_path(folder):
@@ -241,17 +224,12 @@ def closed_pipe(binary, folder):
 
 # The file of the certificates, and an output that takes nothing. Each answers what came and what is wanted.
 
-def content(path):
-    with open(path, "rb") as f:
-        return f.read()
-
-
 def kept(binary, folder, path, **more):
     """The status, what stands on standard error, whether the file begins as one of certificates, and what else stands there."""
-    done = subprocess.run([binary, "scan", folder, "--certs", path] + ASKED, capture_output=True, timeout=60, cwd=folder, **more)
+    status, _, err = run([binary, "scan", folder, "--certs", path] + ASKED, cwd=folder, **more)
     full = os.path.join(folder, path)
     is_new = os.path.isfile(full) and content(full).startswith(HEADER)
-    return done.returncode, done.stderr.decode(), is_new, sorted(os.listdir(os.path.dirname(full)) if os.path.isdir(os.path.dirname(full)) else [])
+    return status, err, is_new, sorted(os.listdir(os.path.dirname(full)) if os.path.isdir(os.path.dirname(full)) else [])
 
 
 def new_file(binary, folder):
@@ -352,8 +330,7 @@ def endless_device(binary, folder):
 
 
 def kept_quickly(binary, folder, path):
-    done = subprocess.run([binary, "scan", folder, "--certs", path] + ASKED, capture_output=True, timeout=20, cwd=folder)
-    return done.returncode, done.stderr.decode()
+    return run([binary, "scan", folder, "--certs", path] + ASKED, timeout=20, cwd=folder)[::2]
 
 
 def socket_as_file(binary, folder):
@@ -377,9 +354,7 @@ def used_again(binary, folder):
 
 def verified(binary, folder, **more):
     """A verification with the certificates `C` and the report `P`."""
-    words = [binary, "verify", folder, "--certs", "C", "--report", "P"] + ASKED
-    done = subprocess.run(words, capture_output=True, timeout=60, cwd=folder, **more)
-    return done.returncode, done.stdout.decode(), done.stderr.decode()
+    return run([binary, "verify", folder, "--certs", "C", "--report", "P"] + ASKED, cwd=folder, **more)
 
 
 def verified_reports(binary, folder):
@@ -433,8 +408,7 @@ def demo_to_full_device(binary, folder):
 def demo_in_a_folder(binary, folder):
     """Nothing is read or left there."""
     before = sorted(os.listdir(folder))
-    done = subprocess.run([binary, "demo", "1"], capture_output=True, timeout=60, cwd=folder)
-    return (done.returncode, done.stdout, done.stderr, sorted(os.listdir(folder))), (
+    return (*called([binary, "demo", "1"], cwd=folder), sorted(os.listdir(folder))), (
         0, b"packages 1000\nqueries 12000\nreports 506\nbytes 41095\n", b"", before)
 
 
@@ -453,11 +427,11 @@ def no_room(binary, folder):
 
 
 def ended_in_the_middle(binary, folder):
-    """Ended by a signal while it writes: the old file stays, and the next run isn't hindered by what is left beside it."""
+    """Ended by a signal while it writes: the old file stays, and the next run takes away what is left beside it."""
     put(folder, "certs/C", b"old")
     first = kept(binary, folder, "certs/C", preexec_fn=small_files_only(signal.SIG_DFL))
-    got = (first[0], content(os.path.join(folder, "certs/C"))) + kept(binary, folder, "certs/C")[:3]
-    return got, (-signal.SIGXFSZ, b"old", 1, "", True)
+    got = first[0], content(os.path.join(folder, "certs/C")), first[3], kept(binary, folder, "certs/C")
+    return got, (-signal.SIGXFSZ, b"old", ["C", "C.new0"], (1, "", True, ["C"]))
 
 
 def at_each_length(binary, folder):
@@ -474,7 +448,8 @@ def at_each_length(binary, folder):
 
 
 def killed_at_any_moment(binary, folder):
-    """Killed after ever longer times, until a run ends by itself: at FILE stand the old bytes or all of the new ones."""
+    """Killed after ever longer times, until a run ends by itself: at FILE stand the old bytes or all of the new ones, and in the end nothing
+    else is left."""
     wide(folder)
     make(folder, "certs")
     path = os.path.join(folder, "certs/C")
@@ -491,9 +466,6 @@ def killed_at_any_moment(binary, folder):
         if content(path) not in (b"old", want[1]):
             torn.append(wait)
         wait += 0.002
-    for name in os.listdir(os.path.join(folder, "certs")):
-        if name != "C":
-            cut(folder, "certs/" + name)
     return (torn, (kept(binary, folder, "certs/C"), content(path))), ([], want)
 
 
@@ -565,13 +537,7 @@ def small_output(words, folder, limited):
 
 def as_it_is_called(binary, folder):
     """By the script at the top, the signal of that limit is held back: a fault of the store, and one of the output."""
-    top = os.path.join(folder, "top")
-    for part in ("src", "specs", "proofs", "out"):
-        make(top, "crates/gvis/" + part)
-    put(top, "crates.txt", b"")
-    shutil.copy(os.path.join(os.path.dirname(os.path.abspath(__file__)), "../gvis"), top)
-    shutil.copy(binary, os.path.join(top, "crates/gvis/out/gvis"))
-    put(top, "crates/gvis/out/gvis.built", b"a toolchain\n")
+    top = checkout(os.path.join(folder, "top"), binary)
     script = os.path.join(top, "gvis")
     put(folder, "certs/C", b"old")
     limited = small_files_only(signal.SIG_DFL)
@@ -595,24 +561,23 @@ echo "$status $(cat "$folder/C") $(wc -c <"$folder/out") $(cd "$folder" && echo 
 
 
 def on_full_disk(binary, folder, what, certs):
-    """What the script says, and what stands on standard error; none where no disk can be mounted here."""
+    """What the script says, and what stands on standard error."""
     make(folder, "disk")
     disk = os.path.join(folder, "disk")
     call = [binary, "scan", folder, "--certs", certs] + ASKED
     words = ["unshare", "--map-root-user", "--mount", "sh", "-c", FULL_DISK, "sh", disk, what] + call
-    try:
-        done = subprocess.run(words, capture_output=True, timeout=60, cwd=folder)
-    except FileNotFoundError:
-        return None
-    if done.returncode == 77 or done.stderr.startswith(b"unshare: "):
-        return None
-    return done.stdout.decode().splitlines()[-1:], done.stderr.decode()
+    status, out, err = run(words, cwd=folder)
+    if status == 77 or err.startswith("unshare: "):
+        raise Untested("no disk can be mounted here")
+    return out.splitlines()[-1:], err
 
 
+@needs("unshare")
 def store_on_full_disk(binary, folder):
     return on_full_disk(binary, folder, "store", "disk/C"), (["3 old 0 C fill log out"], "gvis: fault: store disk/C\n")
 
 
+@needs("unshare")
 def output_on_full_disk(binary, folder):
     return on_full_disk(binary, folder, "output", "C"), (["3 old 0 C fill log out"], "gvis: fault: output\n")
 
@@ -636,7 +601,7 @@ def for_nobody(binary, folder):
     return copied, {"user": NOBODY} if os.getuid() == 0 else {}
 
 
-def without_leave_at(binary, mode, folder):
+def without_leave_at(mode, binary, folder):
     """The folder of the old file may not be written, or not even be entered: the old one stays."""
     repository(folder)
     put(folder, "certs/C", b"old")
@@ -662,9 +627,9 @@ def without_leave_to_read_certificates(binary, folder):
     os.chmod(old, 0o600)
     got = first, content(old)
     os.chmod(old, 0)
-    fresh = subprocess.run([copied, "scan", folder, "--certs", "certs/C", "--fresh"] + ASKED, capture_output=True, timeout=60, cwd=folder, **more)
+    fresh = run([copied, "scan", folder, "--certs", "certs/C", "--fresh"] + ASKED, cwd=folder, **more)
     os.chmod(old, 0o600)
-    return got + (fresh.returncode, fresh.stderr, content(old)[:10]), ((3, "gvis: fault: store certs/C\n"), b"old", 1, b"", HEADER)
+    return got + (*fresh[::2], content(old)[:10]), ((3, "gvis: fault: store certs/C\n"), b"old", 1, "", HEADER)
 
 
 def without_leave_to_read_the_report(binary, folder):
@@ -676,7 +641,7 @@ def without_leave_to_read_the_report(binary, folder):
     return verified(copied, folder, **more), (3, "", "gvis: fault: store P\n")
 
 
-CASES = [
+CHANGES = [
     a_file_and_an_absent_path, no_profiles_desc, folder_in_place_of_a_file, path_below_a_file, empty_folder_is_a_profile,
     folders_in_place_of_files, files_of_a_folder, hidden_file_of_a_folder, links_to_files_and_folders, link_to_nothing,
     ebuild_changed, eclass_changed, folder_in_place_of_an_ebuild, folder_in_place_of_an_eclass,
@@ -695,43 +660,35 @@ def without_leave(binary, folder):
         os.chmod(os.path.join(folder, "metadata/md5-cache/app"), 0o700)
 
 
-def changed(binary, case, folder):
+def changed(case, binary, folder):
     """A scan of the repository behind a change, which answers what is wanted."""
     repository(folder)
     want = case(folder)
     return scan(binary, folder), want
 
 
-def standing_at(binary, kind, path, folder):
+def standing_at(kind, path, binary, folder):
     repository(folder)
     replaced(folder, path, kind)
     return scan(binary, folder), (3, "", "gvis: fault: tree %s\n" % path) if path in READ else (0, "", "")
 
 
-def in_repository(binary, case, folder):
+def in_repository(case, binary, folder):
     repository(folder)
     return case(binary, folder)
 
 
-def main(binary):
-    binary = os.path.abspath(binary)
-    results = [tried(case.__name__, changed, binary, case) for case in CASES]
-    results += [tried(f"{kind.__name__} at {path}", standing_at, binary, kind, path) for kind in (pipe, device, listening) for path in READ + LISTED]
-    results.append(tried("no_leave_to_read", without_leave, binary))
-    results.append(tried("no_leave_to_write", without_leave_at, binary, 0o555))
-    results.append(tried("no_leave_to_enter", without_leave_at, binary, 0))
-    results.append(tried("no_leave_to_read_certificates", without_leave_to_read_certificates, binary))
-    results.append(tried("no_leave_to_read_the_report", without_leave_to_read_the_report, binary))
-    results += [tried(case.__name__, in_repository, binary, case) for case in KEPT + [closed_pipe]]
-    for name, got, want in [tried(case.__name__, in_repository, binary, case) for case in ON_A_DISK]:
-        if got is None:
-            print(f"{name}: not tried, no disk can be mounted here")
-        else:
-            results.append((name, got, want))
-    return tell(results)
+def standing(case):
+    """A case in the repository, by its own name."""
+    made = named(case.__name__, in_repository, case)
+    made.needs = getattr(case, "needs", ())
+    return made
 
 
-if __name__ == "__main__":
-    if len(sys.argv) != 2:
-        sys.exit(__doc__)
-    sys.exit(main(sys.argv[1]))
+CASES = [
+    *(named(case.__name__, changed, case) for case in CHANGES),
+    *(named(f"{kind.__name__} at {path}", standing_at, kind, path) for kind in (pipe, device, listening) for path in READ + LISTED),
+    named("no_leave_to_read", without_leave), named("no_leave_to_write", without_leave_at, 0o555),
+    named("no_leave_to_enter", without_leave_at, 0), named("no_leave_to_read_certificates", without_leave_to_read_certificates),
+    named("no_leave_to_read_the_report", without_leave_to_read_the_report), *map(standing, KEPT + [closed_pipe] + ON_A_DISK),
+]

@@ -1,19 +1,22 @@
-#!/usr/bin/env python3
-"""Sees that what docs/rules.md names for each rule is there.
+"""What docs/rules.md names for each rule is there, and each case that it names carries the rule's mark.
 
-    rooms.py
+Reads the table under "From a rule to its rooms": the module and the names of a definition, the public call and its clauses, the files of
+code, and the cases. Of the library gv_NAME a case is a heading `## CASE` of gv_probe's data, in NAME.txt, or a test in a crate of tests, in
+NAME.rt, or in a file that begins with `NAME_`, or in the crate itself; `tests/MODULE: CASE` is a function here.
 
-Reads the table under "From a rule to its rooms": the module and the names of a definition, the public call and its clauses,
-the files of code, and the tests, which stand in a crate of tests, in files that begin with the library's name, or in the
-crate itself. Prints a line for each that isn't there, with its rule, and last how many rules and names
-were looked at. Exit status 1 where one is missing, where a row has an empty cell, or where a section of rules has no row.
+A rule's mark is its name up to the first `,`, `:`, `;` or ` (`. It stands in brackets behind a heading, in a comment in front of a
+function here, and, once one test in a crate has any, in front of each of those that a rule names.
 """
 import os
 import re
-import sys
 
-TOP = os.path.join(os.path.dirname(os.path.abspath(__file__)), "..")
+from common import TOP
+
+ALONE = True
 HEADING = "## From a rule to its rooms"
+MARK = re.compile(r"\[([^\[\]]+)\]")
+# The file of lines that isn't called as its library.
+LINES = {"rows": "run"}
 
 
 def read(*path):
@@ -24,20 +27,46 @@ def read(*path):
         return ""
 
 
+def names_in(*path):
+    folder = os.path.join(TOP, *path)
+    return sorted(os.listdir(folder)) if os.path.isdir(folder) else []
+
+
 def code_of(crate):
     """The text of each file of a crate's code by its name."""
-    folder = os.path.join(TOP, "crates", crate, "src")
-    return {name[:-3]: read(folder, name) for name in os.listdir(folder) if name.endswith(".rt")} if os.path.isdir(folder) else {}
+    return {name[:-3]: read("crates", crate, "src", name) for name in names_in("crates", crate, "src") if name.endswith(".rt")}
 
 
-def tests_of(crate):
-    """The text of each file with tests of a crate: its own, and those of the crates of tests that have its name in front."""
-    own = crate.removeprefix("gv_")
-    texts = list(code_of(crate).values())
-    for other in sorted(os.listdir(os.path.join(TOP, "crates"))):
-        if other.endswith("_tests"):
-            texts += [text for name, text in code_of(other).items() if name == own or name.startswith(own + "_")]
-    return texts
+# Cases: places by their kind, their home and their name, with the marks that stand there.
+
+def homes_of(name):
+    """The libraries whose name a file has in front."""
+    parts = LINES.get(name, name).split("_")
+    return ["gv_" + "_".join(parts[:at]) for at in range(1, len(parts) + 1)]
+
+
+def headings():
+    for file in names_in("crates/gv_probe/data"):
+        for line in read("crates/gv_probe/data", file).split("\n"):
+            if line.startswith("## "):
+                for home in homes_of(file.removesuffix(".txt")):
+                    yield ("line", home, line[3:].split(" [")[0]), MARK.findall(line)
+
+
+def functions():
+    for file in names_in("tests"):
+        if file.endswith(".py"):
+            for comment, name in re.findall(r"^(?:# (\[.*\])\n(?:@.*\n)*)?def (\w+)\(", read("tests", file), re.M):
+                yield ("function", "tests/" + file[:-3], name), MARK.findall(comment)
+
+
+def tests():
+    """The tests of all crates; one stands for each library whose name its file has in front."""
+    for crate in names_in("crates"):
+        for file, text in code_of(crate).items():
+            for comment, name in re.findall(r"^ *(?:// (\[.*\])\n *)?#\[test\]\n\s*fn (\w+)\(", text, re.M):
+                for home in homes_of(file) if crate.endswith("_tests") else [crate]:
+                    yield ("test", home, name), MARK.findall(comment)
 
 
 def contract(code, call):
@@ -51,34 +80,34 @@ def contract(code, call):
                 holder = line
             elif line.startswith("}"):
                 holder = ""
-            if re.match(rf"\s*pub fn {name}\b", line) and (not owner or re.search(rf"\b{owner}\b", holder)):
+            if re.match(rf"\s*pub fn {name}\b", line) and (re.search(rf"\b{owner}\b", holder) if owner else not holder):
                 end = next((n for n in range(at, len(lines)) if lines[n].strip() == "{" or lines[n].endswith("{}")), len(lines))
                 return "\n".join(lines[at : end + 1])
     return ""
 
 
-def definition_is(crate, module, names):
+# What is missing of a definition, a call and a file of code.
+
+def definition_lacks(crate, module, names):
     text = read("crates", crate, "specs", module + ".antt")
     return [name for name in names or [""] if not re.search(rf"\bpub (?:\w+ )*{re.escape(name)}(?= |$)", text, re.M)]
 
 
-def call_is(crate, call, clauses):
+def call_lacks(crate, call, clauses):
     lines = contract(code_of(crate), call)
     if not lines:
         return [call]
     return [clause for clause in clauses if not re.search(rf"\bensures {clause} \{{", lines)]
 
 
-def file_is(crate, file, _):
+def file_lacks(crate, file, _):
     return [] if file in code_of(crate) else [file]
 
 
-def test_is(crate, test, _):
-    return [] if any(re.search(rf"#\[test\]\n\s*fn {test}\(", text) for text in tests_of(crate)) else [test]
+COLUMNS = (("definition", definition_lacks), ("call", call_lacks), ("code", file_lacks))
 
 
-COLUMNS = (("definition", definition_is), ("call", call_is), ("code", file_is), ("test", test_is))
-
+# The table
 
 def rows():
     """The rows of the table as lists of cells, and the headings of sections in it."""
@@ -88,26 +117,66 @@ def rows():
     return [row for row in cells if any(row[1:])], {row[0].strip("*") for row in cells if not any(row[1:])}
 
 
-def main():
+def mark_of(rule):
+    return re.split(r",|:|;| \(", rule.replace("`", ""))[0]
+
+
+def named_in(cell, crate):
+    """The home, the item and its names of each thing that a cell names."""
+    for one in re.findall(r"`([^`]+)`", cell):
+        place, _, names = one.partition(": ")
+        home, _, item = place.rpartition("/")
+        yield home or crate.strip("`"), item, [name for name in names.split(", ") if name]
+
+
+def cases_named():
+    """Of each rule its mark and the cases that it names, as (home, name)."""
+    for rule, crate, *_, cell in rows()[0]:
+        cases = []
+        for home, item, names in named_in(cell, crate):
+            cases += [("tests/" + item, name) for name in names] if home == "tests" else [(home, item)]
+        yield mark_of(rule), cases
+
+
+def what_a_rule_names_is_there(*_):
     there, sections = rows()
     missing, looked = [], 0
     for rule, crate, *cells in there:
-        for (kind, is_there), cell in zip(COLUMNS, cells):
-            named = re.findall(r"`([^`]+)`", cell)
-            if not named:
-                missing.append(f"{rule}: no {kind}")
-            for one in named:
-                place, _, names = one.partition(": ")
-                home, _, item = place.rpartition("/")
-                wanted = [name for name in names.split(", ") if name]
-                looked += 1 + len(wanted)
-                home = home or crate.strip("`")
-                missing += [f"{rule}: {kind}: {home}: {item}: {name}" for name in is_there(home, item, wanted)]
-    headings = re.findall(r"^## (.*?)(?: \(.*)?$", read("docs", "rules.md").partition(HEADING)[0], re.M)
-    missing += [f"no rule of the section: {heading}" for heading in headings if heading not in sections]
-    print("\n".join([*missing, f"{len(there)} rules, {looked} names, {len(missing)} missing"]))
-    return 1 if missing or not there else 0
+        missing += [f"{rule}: no {kind}" for kind, cell in zip(["definition", "call", "code", "case"], cells) if not re.search("`[^`]+`", cell)]
+        for (kind, lacks), cell in zip(COLUMNS, cells):
+            for home, item, names in named_in(cell, crate):
+                looked += 1 + len(names)
+                missing += [f"{rule}: {kind}: {home}: {item}: {name}" for name in lacks(home, item, names)]
+    titles = re.findall(r"^## (.*?)(?: \(.*)?$", read("docs", "rules.md").partition(HEADING)[0], re.M)
+    missing += [f"no rule of the section: {title}" for title in titles if title not in sections]
+    return (missing, len(there) > 80, looked > 800), ([], True, True)
 
 
-if __name__ == "__main__":
-    sys.exit(main())
+def each_case_has_the_marks_of_its_rules(*_):
+    """And no mark that is of no rule, or of one that doesn't name the case; no two rules have one mark."""
+    places, wrong, wanted = {}, [], {}
+    for place, marks in [*headings(), *functions(), *tests()]:
+        places.setdefault(place, set()).update(marks)
+    marks = [mark for mark, _ in cases_named()]
+    wrong += [f"{mark}: the mark of two rules" for mark in sorted(set(marks)) if marks.count(mark) > 1]
+    for mark, cases in cases_named():
+        for home, name in cases:
+            found = [place for place in places if place[1:] == (home, name)]
+            wrong += [f"{mark}: no case {home}: {name}"] * (not found)
+            for place in found:
+                wanted.setdefault(place, set()).add(mark)
+    tests_are_marked = any(marks for place, marks in places.items() if place[0] == "test")
+    for place, marks in places.items():
+        asked = wanted.get(place, set()) if place[0] != "test" or tests_are_marked else set()
+        wrong += [f"{place[1]}: {place[2]}: lacks the mark [{mark}]" for mark in sorted(asked - marks)]
+        named = {mark for other, of in wanted.items() if other[::2] == place[::2] for mark in of}
+        wrong += [f"{place[1]}: {place[2]}: has the mark [{mark}], whose rule doesn't name it" for mark in sorted(marks - named)]
+    return wrong, []
+
+
+def no_mark_of_a_merge_is_left(*_):
+    documents = ["README.md", "CONTRIBUTING.md", *("docs/" + name for name in names_in("docs")), *("tests/" + name for name in names_in("tests"))]
+    return [name for name in documents if re.search("^(<{7} |={7}$|>{7} )", read(name), re.M)], []
+
+
+CASES = [no_mark_of_a_merge_is_left, what_a_rule_names_is_there, each_case_has_the_marks_of_its_rules]

@@ -1,23 +1,14 @@
-#!/usr/bin/env python3
-"""Runs sessions of the built program: each report is what a scan with --fresh prints of the edited files, written out.
-
-    sessions.py BINARY
+"""Sessions of the built program: each report is what a scan with --fresh prints of the edited files, written out.
 
 For each of 200 random repositories a script is made of 20 random edits with a `report` before them and behind each; a session
 that ends at a report has to end as the scan does. Every fourth repository has 400 packages besides that no other one mentions, so that
-an edit touches few of its packages. Prints a line for each that went wrong, and last how many passed. Exit status 1 where one went
-wrong.
+an edit touches few of its packages.
 """
-import hashlib
 import os
 import random
-import subprocess
-import sys
-import tempfile
 
-sys.dont_write_bytecode = True
-from random_repositories import draw_options, draw_repository, put_files  # noqa: E402
-from results import tell  # noqa: E402
+from common import EMPTY, called, named, put_files
+from random_repositories import draw_options, draw_repository
 
 REPOSITORIES, EDITS, OTHERS = 200, 20, 400
 LISTS = ("profiles/profiles.desc", "profiles/categories")
@@ -42,7 +33,7 @@ def drawn_edit(draw, files, other):
 
 def with_others(files):
     """The files with packages of a category of their own, each of which mentions the one before it."""
-    entry = b"DEFINED_PHASES=-\nEAPI=8\nIUSE=a\nKEYWORDS=amd64 ~x86\nRDEPEND=%s\nSLOT=0\n_md5_=" + hashlib.md5(b"").hexdigest().encode() + b"\n"
+    entry = b"DEFINED_PHASES=-\nEAPI=8\nIUSE=a\nKEYWORDS=amd64 ~x86\nRDEPEND=%s\nSLOT=0\n_md5_=" + EMPTY.encode() + b"\n"
     files = dict(files)
     files["profiles/categories"] = files.get("profiles/categories", b"") + b"zz\n"
     for number in range(OTHERS):
@@ -72,13 +63,16 @@ def written(commands):
                     for path, content in commands)
 
 
-def run(binary, words, folder, script=b""):
-    done = subprocess.run([binary] + words, cwd=folder, input=script, capture_output=True, timeout=60)
-    return done.returncode, done.stdout, done.stderr
+COUNT = {"sessions": 0, "reports": 0}
 
 
-def served(binary, number, folder):
-    """How a session over a repository ends, and how scans of the edited files say that it has to; and how many reports it has."""
+def told():
+    return ", ".join(f"{count} {what}" for what, count in COUNT.items())
+
+
+# [what a session writes]
+def served(number, binary, folder):
+    """How a session over a repository ends, and how scans of the edited files say that it has to."""
     draw = random.Random(number + 9000)
     files, other = draw_repository(draw), draw_repository(draw)
     if number % 4 == 3:
@@ -88,7 +82,8 @@ def served(binary, number, folder):
     root, session = os.path.join(folder, "edited", "R"), os.path.join(folder, "session")
     put_files(root, files)
     put_files(os.path.join(session, "R"), files)
-    files, script, out, reports = dict(files), b"", b"", 0
+    files, script, out = dict(files), b"", b""
+    COUNT["sessions"] += 1
     ended = None
     for at in range(EDITS + 1):
         if at:
@@ -97,29 +92,14 @@ def served(binary, number, folder):
             script += written(commands)
         script += b"report\n"
         if ended is None:
-            status, text, err = run(binary, words + ["--fresh"], os.path.join(folder, "edited"))
+            status, text, err = called([binary, *words, "--fresh"], cwd=os.path.join(folder, "edited"))
             if status > 1:
                 ended = (status, out, err)
             else:
                 out += b"report %d\n" % len(text) + text
-                reports += 1
-    got = run(binary, ["session"] + asked[1:], session, script + b"end\n")
-    return ("session %d" % number, got, ended or (0, out, b"")), reports
+                COUNT["reports"] += 1
+    got = called([binary, "session", *asked[1:]], cwd=session, input=script + b"end\n")
+    return got, ended or (0, out, b"")
 
 
-def main(binary):
-    binary = os.path.abspath(binary)
-    results, count = [], 0
-    for number in range(REPOSITORIES):
-        with tempfile.TemporaryDirectory() as folder:
-            result, reports = served(binary, number, folder)
-        results.append(result)
-        count += reports
-    print("%d sessions with %d reports" % (REPOSITORIES, count))
-    return tell(results)
-
-
-if __name__ == "__main__":
-    if len(sys.argv) != 2:
-        sys.exit(__doc__)
-    sys.exit(main(sys.argv[1]))
+CASES = [named(f"session {number}", served, number) for number in range(REPOSITORIES)]

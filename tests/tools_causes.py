@@ -4,7 +4,9 @@ import json
 import os
 import re
 
-from tools_common import TOP, content, put, run
+import json_reports
+import plain
+from common import TOP, content, needs, put, run
 
 TOOL = os.path.join(TOP, "share/gvis-causes")
 
@@ -31,7 +33,7 @@ def titles(folder, reports):
     return [(title, int(count)) for count, title in re.findall(r"^(\d+) (?:package|line)s?, \d+ reports: (.*)$", causes(folder, reports, "--top", "99"), re.M)]
 
 
-# An item, the flags of the question, and the atoms that are the cause.
+# An item, the flags of the query, and the atoms that are the cause.
 ITEMS = [
     ("x/y", "", "x/y"), (">=x/y-1.2:0=", "", ">=x/y-1.2:0"), ("x/y:=", "", "x/y"), ("x/y:*", "", "x/y"), ("x/y:=[a]", "", "x/y[a]"), ("x/y[a=]", "a", "x/y[a=]"),
     ("f? ( x/y )", "f", "x/y"), ("!f? ( x/y )", "-f", "x/y"), ("f? ( g? ( x/z ) !g? ( x/y ) )", "f -g", "x/y"),
@@ -114,12 +116,32 @@ def other_reports(_, folder):
         {"keyword": "StaleCache", "package": "a/c-1", "detail": "eclass one"}, {"keyword": "StaleCache", "package": "a/a-2", "detail": "ebuild"}, {"keyword": "StaleCache", "package": "a/a-3", "detail": "eclasses"},
         {"keyword": "OrphanCache", "package": "a/a-4"}, {"keyword": "MissingCache", "package": "a/a-5"}, {"keyword": "VisibleVcsPkg", "package": "a/a-9999", **context},
         {"keyword": "UnsatisfiableRequiredUse", "package": "a/a-1", "detail": "^^ ( b c )", **context}, {"keyword": "UnstatedIuse", "package": "a/a-1", "detail": "flag", "class": "DEPEND", **context},
-        {"keyword": "UnstatedIuse", "package": "a/a-1", "detail": "flag", "class": "RDEPEND", **context}]
+        {"keyword": "UnstatedIuse", "package": "a/a-1", "detail": "flag", "class": "RDEPEND", **context},
+        {"keyword": "RequiredUseDefaults", "package": "a/a-1", "detail": "^^ ( b c )", "use": "-b -c", **context}, {"keyword": "RedundantVersion", "package": "a/a-1", "detail": "a-2"},
+        {"keyword": "RedundantVersion", "package": "a/b-1", "detail": "b-9"}, {"keyword": "UnknownProfilePackage", "path": "profiles/package.mask", "line": 4, "detail": "x/gone"},
+        {"keyword": "UnknownProfilePackage", "path": "profiles/package.mask", "line": 7, "detail": "=x/y-9"}]
     return sorted(titles(folder, reports)), sorted([
         ("cache entries made before eclass one changed", 3), ("bad value in cache entries: RDEPEND: bad atom", 2), ("cache entries that aren't those of their ebuild", 1),
         ("bad value in cache entries: EAPI: unsupported", 1), ("bad value in cache entries: IUSE", 1), ("cache entries whose list of eclasses can't be read", 1),
         ("cache entries without an ebuild", 1), ("ebuilds without a cache entry", 1), ("live packages that are visible", 1), ("REQUIRED_USE that can't be met: ^^ ( b c )", 1),
-        ("flag that isn't in IUSE: flag", 1), ("profiles/package.mask: bad atom", 2), ("profiles/a/parent: cycle", 1)])
+        ("flag that isn't in IUSE: flag", 1), ("profiles/package.mask: bad atom", 2), ("profiles/a/parent: cycle", 1),
+        ("REQUIRED_USE that defaults don't meet: ^^ ( b c )", 1), ("versions that a later one makes needless", 2), ("profiles/package.mask: names of no package", 2)])
+
+
+def names_of_no_package(_, folder):
+    """By file, each with its line and its name: in text, on the page, and where a line is a result of its own."""
+    reports = [{"keyword": "UnknownProfilePackage", "path": f"profiles/{path}", "line": line, "detail": name}
+               for path, line, name in (("package.mask", 4, "x/gone"), ("package.mask", 12, "=x/y-9"), ("base/package.use/a", 1, "x/<b>"))]
+    text = causes(folder, reports)
+    causes(folder, reports, "--html", os.path.join(folder, "page"))
+    data = json.loads(re.search(r'<script type="application/json" id="data">(.*)</script>', content(folder, "page"))[1])
+    items = [re.findall(r"<li><code>(line .*?)</code> <span class=\"dim\">(.*?)</span>", inside) for _, _, inside in data]
+    issues = sorted((issue["location"]["lines"]["begin"], issue["description"], issue["severity"]) for issue in json.loads(causes(folder, reports, "--gitlab")))
+    return (titles_of(text), re.findall(r"^ {10}(line.*)$", text, re.M), items, issues), (
+        [("profiles/package.mask: names of no package", 2), ("profiles/base/package.use/a: names of no package", 1)],
+        ["line 4: x/gone", "line 12: =x/y-9", "line 1: x/<b>"], [[("line 4", "x/gone"), ("line 12", "=x/y-9")], [("line 1", "x/&lt;b&gt;")]],
+        [(1, "profiles/base/package.use/a: names of no package; x/<b>", "minor"), (4, "profiles/package.mask: names of no package; x/gone", "minor"),
+         (12, "profiles/package.mask: names of no package; =x/y-9", "minor")])
 
 
 def every_line_is_counted_once(binary, folder):
@@ -137,20 +159,19 @@ class Page(html.parser.HTMLParser):
 
     def __init__(self, text):
         super().__init__()
-        self.open, self.links, self.names, self.tables, self.good = [], [], set(), [], True
+        self.open, self.links, self.tables, self.good = [], [], [], True
         self.feed(text)
 
     def handle_starttag(self, tag, attrs):
         attrs = dict(attrs)
         self.links += [attrs[name] for name in ("href", "src") if name in attrs]
-        self.names |= {attrs.get("id")}
         if tag == "table":
             self.tables.append([])
         elif tag == "tr":
             self.tables[-1].append([])
         elif tag in ("td", "th"):
             self.tables[-1][-1].append("")
-        if tag not in ("meta", "br"):
+        if tag not in ("meta", "input"):
             self.open.append(tag)
 
     def handle_endtag(self, tag):
@@ -162,16 +183,33 @@ class Page(html.parser.HTMLParser):
 
 
 def page_of_causes(_, folder):
-    """Whole, without anything from a network, what a line holds only as text, a table for each cause with its profiles' counts."""
-    reports = [unmet("a/a-1", "x/y"), unmet("a/b-1", "x/y"), unmet("a/b-1", "x/y", "arm two", level="testing"), unmet("a/c-1", "x/<b>&\"", kind="NonsolvableDepsInExp")]
+    """Whole, without anything from a network; what a line holds only as text; of each cause its numbers, and inside a table of its profiles, those alike in one row."""
+    reports = [unmet("a/a-1", "x/y"), unmet("a/b-1", "x/y"), unmet("a/a-1", "x/y", "amd64 other"), unmet("a/b-1", "x/y", "amd64 other"), unmet("a/b-1", "x/y", "arm two", level="testing"),
+               unmet("a/c-1", "x/</script><b>&\"", kind="NonsolvableDepsInExp"), unmet("a/c-1", "x/y:2", "mips base")]
     causes(folder, reports, "--html", os.path.join(folder, "page"))
     text = content(folder, "page")
     page = Page(text)
-    return (page.good, page.open, all(link.startswith("#") and link[1:] in page.names for link in page.links), "://" in text, "<b>&" in text, page.tables), (
-        True, [], True, False, False, [
-            [["Cause", "Packages", "Reports", "Profiles", "Behind it"], ["x/y", "2", "3", "2", "keyword or mask"], ["x/<b>&\"", "1", "1", "1", "keyword or mask"]],
-            [["Arch", "Profile", "Status", "Level", "Packages", ""], ["amd64", "base", "stable", "stable", "2", ""], ["arm", "two", "stable", "testing", "1", ""]],
-            [["Arch", "Profile", "Status", "Level", "Packages", ""], ["amd64", "base", "exp", "stable", "1", ""]]])
+    data = json.loads(re.search(r'<script type="application/json" id="data">(.*)</script>', text)[1])
+    parts = [(Page(head), Page(inside)) for _, head, inside in data]
+    inside, names = [page for _, page in parts], {name for name, _, _ in data}
+    links = [link for page in inside for link in page.links]
+    return (page.good, page.open, page.links, all(head.good and page.good and not head.open + page.open for head, page in parts), [link[1:] in names for link in links], "://" in text,
+            "<b>&" in text, [re.sub("<[^>]*>", "", head) for _, head, _ in data], [page.tables for page in inside]), (
+        True, [], [], True, [True, True], False, False,
+        ["x/y 2 packages, 5 reports, 3 profiles keyword or common mask keyword or mask", "x/&lt;/script&gt;&lt;b&gt;&amp;&quot; 1 package, 1 report, 1 profile mask or flags",
+         "x/y:2 1 package, 1 report, 1 profile keyword or mask"],
+        [[[["Arch", "Profiles", "Status", "Level", "Packages in each"], ["amd64", "base, other", "stable", "stable", "2"], ["arm", "two", "stable", "testing", "1"]]],
+         [[["Arch", "Profiles", "Status", "Level", "Packages in each"], ["amd64", "base", "exp", "stable", "1"]]], [[["Arch", "Profiles", "Status", "Level", "Packages in each"], ["mips", "base", "stable", "stable", "1"]]]])
+
+
+def a_page_without_its_file(_, folder):
+    """Where the tool was copied alone it says what it lacks; other forms need nothing."""
+    tool = put(folder, "bin/gvis-causes", content(TOOL), 0o755)
+    lines = put(folder, "lines", "")
+    status, out, err = run([tool, lines, "--html", "-"])
+    put(folder, "share/gvis/causes.html", "a <!--numbers--> b <!--causes--> c")
+    return (status, out, err, run([tool, lines])[0], run([tool, lines, "--html", "-"])[1].endswith(" b [] c")), (
+        1, "", f"gvis-causes: the page causes.html is neither in {folder}/bin nor in ../share/gvis beside it\n", 0, True)
 
 
 def annotations(_, folder):
@@ -181,6 +219,91 @@ def annotations(_, folder):
     return [re.match(r"(.*?)::(.*?%0A|[^%]*$)", line[2:]).groups() for line in lines], [
         ("error file=a/b-c/b-c-1.2_rc3-r1.ebuild,line=1,title=>=x/y-1%3A0", "1 package: a/b-c-1.2_rc3-r1%0A"), ("warning file=a/d/d-1.ebuild,line=1,title=x/z", "1 package: a/d-1%0A"),
         ("warning file=profiles/use.mask,line=7,title=profiles/use.mask%3A bad flag", "1 line: profiles/use.mask: bad flag")]
+
+
+PLACES = [
+    unmet("a/b-c-1.2_rc3-r1", ">=x/y-1:0"), unmet("a/b-c-1.2_rc3-r1", ">=x/y-1:0", kind="NonsolvableDepsInExp", profile="arm base"), gone("a/d-1", "x/gone"), unmet("a/e-1", "x/gone"),
+    unmet("a/f++-1", "x/z", kind="NonsolvableDepsInDev"), {"keyword": "OrphanCache", "package": "a/g-2"},
+    {"keyword": "ProfileNote", "path": "profiles/o dd", "line": 7, "detail": "bad flag"}, {"keyword": "ProfileNote", "path": "profiles/o dd", "line": 9, "detail": "bad flag"}]
+
+
+def sarif(folder, reports):
+    return json.loads(causes(folder, reports, "--sarif"))
+
+
+def sarif_results(_, folder):
+    """One for each cause and place, of the gravest kind there; the rules are the kinds that are named, each with its level."""
+    run_, = sarif(folder, PLACES)["runs"]
+    rules = run_["tool"]["driver"]["rules"]
+    got = []
+    for result in run_["results"]:
+        location = result["locations"][0]["physicalLocation"]
+        got.append((result["ruleId"], result["level"], location["artifactLocation"]["uri"], location["region"]["startLine"], result["message"]["text"].split(";")[0]))
+    agree = [rules[result["ruleIndex"]]["id"] == result["ruleId"] and rules[result["ruleIndex"]]["defaultConfiguration"]["level"] == result["level"] for result in run_["results"]]
+    prints = {result["partialFingerprints"]["causeAndFile/v1"] for result in run_["results"]}
+    return (sorted(got), agree, len(prints), [rule["id"] for rule in rules]), (sorted([
+        ("NonexistentDeps", "error", "a/d/d-1.ebuild", 1, "x/gone"), ("NonsolvableDepsInStable", "error", "a/e/e-1.ebuild", 1, "x/gone"),
+        ("NonsolvableDepsInStable", "error", "a/b-c/b-c-1.2_rc3-r1.ebuild", 1, ">=x/y-1:0"), ("NonsolvableDepsInDev", "warning", "a/f%2B%2B/f%2B%2B-1.ebuild", 1, "x/z"),
+        ("OrphanCache", "error", "metadata/md5-cache/a/g-2", 1, "cache entries without an ebuild"),
+        ("ProfileNote", "warning", "profiles/o%20dd", 7, "profiles/o dd: bad flag"), ("ProfileNote", "warning", "profiles/o%20dd", 9, "profiles/o dd: bad flag")]), [True] * 7, 7,
+        ["NonexistentDeps", "NonsolvableDepsInStable", "OrphanCache", "NonsolvableDepsInDev", "NonsolvableDepsInExp", "ProfileNote"])
+
+
+def each_kind_is_described(_, folder):
+    """Those of the program, each by a sentence of its own."""
+    rules = sarif(folder, json_reports.reports() + json_reports.lint_reports())["runs"][0]["tool"]["driver"]["rules"]
+    return (sorted(rule["id"] for rule in rules), len({rule["shortDescription"]["text"] for rule in rules})), (sorted(plain.KEYWORDS + plain.LINT_KEYWORDS), 16)
+
+
+@needs("jsonschema")
+def sarif_is_of_its_schema(_, folder):
+    """By a validator: of reports of each kind, of none, and not what has a property or a level that the standard lacks."""
+    def valid(log):
+        return run(["jsonschema", "-i", put(folder, "log", json.dumps(log)), os.path.join(TOP, "tests/sarif_part.json")])[0] == 0
+
+    good = sarif(folder, PLACES + json_reports.reports())
+    turned = [json.loads(json.dumps(good)) for _ in range(3)]
+    turned[0]["runs"][0]["results"][0]["level"] = "grave"
+    turned[1]["runs"][0]["results"][0]["locations"][0]["physicalLocation"]["line"] = 1
+    del turned[2]["runs"][0]["results"][0]["message"]
+    return ([valid(log) for log in (good, sarif(folder, []), *turned)], len(good["runs"][0]["results"]) > 13), ([True, True, False, False, False], True)
+
+
+def lines_for_editors(binary, folder):
+    """Each report of the program as FILE:LINE: and the rest of its line; FILE of a package is its ebuild, where it has one."""
+    options = ["scan", "R", "--certs", "C"]
+    text = json_reports.scan(binary, folder)[1].splitlines()
+    lines = run([TOOL, "--lines", put(folder, "json", run([binary, *options, "--json"], cwd=folder)[1])])[1].splitlines()
+    parts = [re.match(r"(\S+):(\d+): (.*)", line).groups() for line in lines]
+    ebuilds = {path for path, _, _ in parts if path.startswith("app/")}
+    there = [os.path.exists(os.path.join(folder, "R", path)) for path, _, _ in parts]
+    return ([rest for _, _, rest in parts], all(there), sorted(ebuilds), [":".join(part[:2]) for part in parts[:2]]), (
+        [re.sub(r"^\S+: ", "", line, count=1) for line in text], True, [f"app/{n}/{n}-{v}.ebuild" for n, v in (("p", 1), ("q", 1), ("r", 1), ("t", 1), ("u", 1), ("v", 9999))],
+        [line.split(": ")[0] for line in text[:2]])
+
+
+READS_LINES = ["-c", r"set errorformat=%f:%l:\ %m", "-c", "cgetfile lines", "-c", "call writefile(map(getqflist(), 'bufname(v:val.bufnr) .. \"|\" .. v:val.lnum .. \"|\" .. v:val.text'), 'read')"]
+
+
+@needs("vim")
+def an_editor_reads_the_lines(_, folder):
+    """By vim's own reader of such lines, as docs/ci.md sets it: the file, the line, and the whole text."""
+    reports = json_reports.reports()
+    lines = put(folder, "lines", causes(folder, reports, "--lines"))
+    run(["vim", "-N", "-u", "NONE", "-i", "NONE", "-es", *READS_LINES, "-c", "qa!"], cwd=folder)
+    shown = os.path.join(folder, "read")
+    got = content(shown).splitlines() if os.path.exists(shown) else []
+    return (got, r"errorformat=%f:%l:\ %m" in content(TOP, "docs/ci.md")), ([re.sub(r":(\d+): ", r"|\1|", line, count=1) for line in content(lines).splitlines()], True)
+
+
+def fingerprints_of_code_quality(_, folder):
+    """Each entry has its own, also two lines of one file, and keeps it where lines move."""
+    def prints(*more):
+        return [issue["fingerprint"] for issue in json.loads(causes(folder, [*PLACES, *more], "--gitlab"))]
+
+    got = prints()
+    moved = [issue["fingerprint"] for issue in json.loads(causes(folder, [dict(report, line=report["line"] + 1) if "line" in report else report for report in PLACES], "--gitlab"))]
+    return (len(got), len(set(got)), got == moved), (7, 7, True)
 
 
 def bad_input(_, folder):
@@ -206,6 +329,7 @@ def large_input(_, folder):
 
 CASES = [
     the_cause_of_an_item, most_packages_first, of_several_the_one_that_other_lines_show, what_asks_for_more_goes_with_what_asks_for_less,
-    what_no_package_matches, what_is_behind_it, counts_of_profiles, other_reports, every_line_is_counted_once, page_of_causes, annotations,
+    what_no_package_matches, what_is_behind_it, counts_of_profiles, other_reports, names_of_no_package, every_line_is_counted_once, page_of_causes, a_page_without_its_file, annotations,
+    sarif_results, each_kind_is_described, sarif_is_of_its_schema, lines_for_editors, an_editor_reads_the_lines, fingerprints_of_code_quality,
     bad_input, large_input,
 ]

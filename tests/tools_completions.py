@@ -3,7 +3,7 @@ import os
 import re
 import shutil
 
-from tools_common import COMPLETION, TOP, needs, on_terminal, put, run
+from common import COMPLETION, TOP, needs, on_terminal, put, run
 from tools_words import OUTSIDE, Words
 
 SHARE = os.path.join(TOP, "share/completions")
@@ -84,7 +84,10 @@ def wanted(binary):
         "gvis scan repo --profiles " + PATHS[0] + ",": PATHS[1:],
         "gvis scan repository --profiles=": ["last/path", "tab/path"],
         "gvis scan --profiles ": [],
-        "gvis scan repo --keywords ": sorted(words.keywords),
+        "gvis scan repo --keywords ": sorted(words.of_scan),
+        "gvis lint repo --keywords ": sorted(words.of_lint),
+        "gvis lint repo --keywords=RedundantVersion,R": ["RequiredUseDefaults"],
+        "gvis lint repo --profiles ": PATHS,
         "gvis scan repo --keywords=Un": ["UnsatisfiableRequiredUse", "UnstatedIuse"],
         "gvis scan repo --keywords StaleCache,M": ["MetadataError", "MissingCache"],
         "gvis nothing ": [],

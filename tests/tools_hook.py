@@ -5,7 +5,7 @@ import shutil
 import subprocess
 import time
 
-from tools_common import TOP, content, needs, put, run
+from common import TOP, content, needs, put, run
 
 HOOK = os.path.join(TOP, "share/hooks/pre-push")
 # What is there from the beginning: a package that needs one that isn't there.
@@ -21,8 +21,8 @@ class Repository:
         self.folder, self.remote = os.path.join(folder, "work"), os.path.join(folder, "remote.git")
         self.env = {"HOME": folder, "PATH": os.path.join(folder, "bin") + ":" + os.environ["PATH"], "GIT_CONFIG_NOSYSTEM": "1", "LANG": "C.UTF-8",
                     "GIT_AUTHOR_NAME": "a", "GIT_AUTHOR_EMAIL": "a@b", "GIT_COMMITTER_NAME": "a", "GIT_COMMITTER_EMAIL": "a@b"}
-        # The program counts its scans.
-        put(folder, "bin/gvis", f"#!/bin/sh\n[ \"$1\" != scan ] || echo scan >>{folder}/scans\nexec {binary} \"$@\"\n", 0o755)
+        # The program counts its scans and sessions.
+        put(folder, "bin/gvis", f"#!/bin/sh\ncase $1 in scan|session) echo $1 >>{folder}/scans ;; esac\nexec {binary} \"$@\"\n", 0o755)
         self.scans = os.path.join(folder, "scans")
         self.git("init", "-q", "--bare", "-b", "main", self.remote, cwd=folder)
         self.git("init", "-q", "-b", "main", self.folder, cwd=folder)
@@ -59,8 +59,8 @@ class Repository:
         lines = err.splitlines()
         return status == 0, [line for line in lines if line.startswith(("app/", "x/", "profiles/"))], [line for line in lines if line.startswith("gvis: ")]
 
-    def count(self):
-        return content(self.scans).count("scan") if os.path.exists(self.scans) else 0
+    def count(self, what="scan"):
+        return content(self.scans).count(what) if os.path.exists(self.scans) else 0
 
     def has(self, ref="main"):
         return run(["git", "rev-parse", "--verify", "-q", ref], cwd=self.remote, env=self.env)[1].strip()
@@ -283,6 +283,23 @@ def another_program_reports_anew(binary, folder):
     return (first, second, r.count()), (2, 4, 6)
 
 
+def lint_by_a_setting(binary, folder):
+    """Only where the setting is true; a line that moved is none that is new."""
+    r = Repository(binary, folder)
+    put(r.folder, "profiles/package.mask", "# nothing\nx/away\n")
+    r.package("x/lib-2")
+    r.commit()
+    without = r.push()[:2]
+    r.git("config", "gvis.lint", "true")
+    put(r.folder, "profiles/package.mask", "# nothing\n# more\nx/away\nx/elsewhere\n")
+    r.package("app/old-2", "x/lib")
+    r.commit()
+    with_it = r.push()[:2]
+    r.git("config", "gvis.lint", "no")
+    return (without, with_it, r.push()[:2]), (
+        (True, []), (False, ["profiles/package.mask:4: UnknownProfilePackage: x/elsewhere", "app/old-1: RedundantVersion: old-2"]), (True, []))
+
+
 def from_a_worktree_and_a_bare_repository(binary, folder):
     r = Repository(binary, folder)
     r.git("worktree", "add", "-q", "-b", "side", os.path.join(folder, "side"))
@@ -327,9 +344,146 @@ def what_an_ended_push_left(binary, folder):
     return (first, r.push()[:2]), ((False, [HIDDEN]), (False, [HIDDEN]))
 
 
+def a_checkout_that_was_changed_is_mended(binary, folder):
+    """Its index is of the tree that is wanted: a file changed, one gone, a folder and a link in the place of one, files and a folder too many."""
+    r = Repository(binary, folder)
+    r.package("app/user-1")
+    r.commit()
+    first = r.push()[:2]
+    r.git("push", "-q", "-f", "--no-verify", "origin", "main~:main")
+    tree = os.path.join(r.folder, ".git/gvis/tree")
+    shutil.rmtree(os.path.join(r.folder, ".git/gvis/reports"))
+    put(tree, "profiles/package.mask", "x/lib\n")
+    os.remove(os.path.join(tree, "metadata/md5-cache/x/lib-1"))
+    os.remove(os.path.join(tree, "x/lib/lib-1.ebuild"))
+    put(tree, "x/lib/lib-1.ebuild/file", "")
+    shutil.rmtree(os.path.join(tree, "app/user"))
+    os.symlink("../x", os.path.join(tree, "app/user"))
+    for path in ("metadata/md5-cache/app/new-1", "app/new/new-1.ebuild"):
+        put(tree, path, content(tree, path.replace("new", "old")))
+    again = r.push()
+    walked = sorted(os.path.relpath(os.path.join(at, name), tree) for at, _, names in os.walk(tree) for name in names)
+    left = content(tree, "profiles/package.mask"), os.path.isfile(os.path.join(tree, "x/lib/lib-1.ebuild")), walked == sorted(r.git("ls-files").splitlines())
+    return (first, again[:2], len(again[2]), left, r.count("session")), ((True, []), (True, []), 1, ("# nothing\n", True, True), 2)
+
+
+def entries_alone_take_one_session(binary, folder):
+    """Ten entries changed, one gone and one new, whose ebuild was there: both trees are reported on by one session, as scans do."""
+    r = Repository(binary, folder)
+    for number in range(12):
+        r.package(f"app/p{number}-1", "x/lib")
+    os.remove(os.path.join(r.folder, "metadata/md5-cache/app/p11-1"))
+    r.git("config", "--unset", "gvis.keywords")
+    r.commit()
+    r.git("push", "-q", "--no-verify", "origin", "main")
+    base = r.has()
+    for number in (*range(10), 11):
+        r.package(f"app/p{number}-1", "x/gone" if number == 3 else "")
+    os.remove(os.path.join(r.folder, "metadata/md5-cache/app/p10-1"))
+    made = r.commit()
+    passed, lines, said = r.push()
+    counts, again = (r.count(), r.count("session")), r.push()[:2]
+    kept, scanned = {}, {}
+    for commit in (base, made):
+        tree = r.git("rev-parse", commit + "^{tree}")
+        name, = (name for name in os.listdir(os.path.join(r.folder, ".git/gvis/reports")) if name.startswith(tree))
+        kept[commit] = content(r.folder, ".git/gvis/reports", name)
+        r.git("worktree", "add", "-q", os.path.join(folder, commit), commit)
+        scanned[commit] = run([binary, "scan", commit, "--certs", "C"], cwd=folder)[1]
+    wrong = ["app/p10-1: MissingCache", "app/p3-1: NonexistentDeps: RDEPEND: x/gone", OLD.replace("old", "p3")]
+    return (passed, sorted(lines), said[:2], counts, again[0], r.count(), kept == scanned, "app/p11-1: MissingCache" in kept[base]), (
+        False, sorted(wrong), [f"gvis: scanning {base[:12]}, which origin has, and 12 changed entries of {made[:12]}, which is pushed to refs/heads/main",
+                               "gvis: 3 new lines by the push to refs/heads/main:"], (0, 1), False, 0, True, True)
+
+
+def else_both_are_scanned(binary, folder):
+    """With an ebuild, an entry that is a link, a tree that is reported on already, and a session that ends."""
+    r = Repository(binary, folder)
+    got = {}
+
+    def push(name):
+        before = r.count(), r.count("session")
+        passed = r.push()[0]
+        got[name] = passed, r.count() - before[0], r.count("session") - before[1]
+
+    r.package("app/user-1", "x/lib x/lib", ebuild="# more\n")
+    r.commit()
+    push("an ebuild")
+    r.package("app/user-1", "x/lib", ebuild="# more\n")
+    r.commit()
+    push("a tree of before")
+    shutil.rmtree(os.path.join(r.folder, ".git/gvis"))
+    os.rename(os.path.join(r.folder, "metadata/md5-cache/app/user-1"), os.path.join(r.folder, "entry"))
+    os.symlink("../../../entry", os.path.join(r.folder, "metadata/md5-cache/app/user-1"))
+    r.git("add", "entry")
+    r.commit()
+    push("a link")
+    shutil.rmtree(os.path.join(r.folder, ".git/gvis"))
+    put(r.folder, "metadata/md5-cache/x/lib-1", content(r.folder, "metadata/md5-cache/x/lib-1") + "#" * 16777216)
+    r.commit()
+    push("a session that ends")
+    return got, {"an ebuild": (True, 2, 0), "a tree of before": (True, 1, 0), "a link": (True, 2, 0), "a session that ends": (False, 2, 1)}
+
+
+def as_a_checkout_writes_it(binary, folder):
+    """What git makes of a file's line ends is what the session is told."""
+    r = Repository(binary, folder)
+    put(r.folder, ".gitattributes", "metadata/md5-cache/app/user-1 text eol=crlf\n")
+    r.commit()
+    r.git("push", "-q", "--no-verify", "origin", "main")
+    r.package("app/user-1", "x/gone")
+    made = r.commit()
+    passed = r.push()[0]
+    tree, reports = r.git("rev-parse", made + "^{tree}"), os.path.join(r.folder, ".git/gvis/reports")
+    kept, = (content(reports, name) for name in os.listdir(reports) if name.startswith(tree))
+    r.git("worktree", "add", "-q", os.path.join(folder, "made"), made)
+    scanned = run([binary, "scan", "made", "--certs", "C", "--keywords", r.git("config", "gvis.keywords")], cwd=folder)[1]
+    return (r.count("session"), passed, kept, "app/user-1: StaleCache: ebuild" in kept), (1, True, scanned, True)
+
+
+def as_an_overlay(r, folder, name="gentoo"):
+    """Makes the repository an overlay, without profiles of its own, over a master that it names."""
+    master = os.path.join(folder, "masters", name)
+    shutil.copytree(os.path.join(r.folder, "profiles"), os.path.join(master, "profiles"))
+    for path in ("x/lib/lib-1.ebuild", "metadata/md5-cache/x/lib-1"):
+        put(master, path, content(r.folder, path))
+    for path in ("profiles", "x", "metadata/md5-cache/x"):
+        shutil.rmtree(os.path.join(r.folder, path))
+    put(r.folder, "metadata/layout.conf", f"masters = {name}\n")
+    r.commit()
+    r.git("config", "gvis.master", master)
+    r.git("push", "-q", "--no-verify", "origin", "main")
+    return master
+
+
+def an_overlay_is_judged_among_its_masters(binary, folder):
+    r = Repository(binary, folder)
+    put(folder, "bin/gvis", f"#!/bin/sh\ncase $1 in scan|session|overlay) echo $1 >>{folder}/scans ;; esac\nexec {binary} \"$@\"\n", 0o755)
+    master = as_an_overlay(r, folder)
+    r.package("app/more-1", "x/lib")
+    r.commit()
+    got = [r.push()[:2]]
+    r.package("app/new-1", "x/gone")
+    r.commit()
+    got.append(r.push()[:2])
+    counts = r.count("overlay"), r.count("session"), r.count("scan")
+    # what the master takes away is no fault of the push
+    put(master, "profiles/package.mask", "x/lib\n")
+    r.package("app/new-1")
+    r.commit()
+    got.append(r.push()[:2])
+    os.remove(os.path.join(master, "profiles/categories"))
+    r.package("app/other-1")
+    r.commit()
+    passed, lines, said = r.push()
+    return (got, counts, passed, lines, "gvis: what is pushed can't be judged: gvis overlay ended with status 6" in said, sorted(os.listdir(os.path.join(r.folder, ".git/gvis/root")))), (
+        [(True, []), (False, [NEW]), (True, [])], (4, 0, 0), False, [], True, ["gentoo", "pushed-overlay"])
+
+
 CASES = [needs("git")(case) for case in (
     a_push_that_hides_a_dependency_is_refused, one_that_does_not_passes, a_fault_that_goes_passes, reports_are_kept,
     the_commit_is_judged_and_not_the_folder, allowed_by_a_variable, a_new_branch_is_compared_with_what_the_remote_has, an_empty_remote,
     what_the_remote_has_is_not_here, other_pushes_are_not_judged, several_branches_at_once, lines_of_files_are_compared_without_numbers,
     what_cannot_be_judged_is_refused, a_cache_that_is_made, another_program_reports_anew, from_a_worktree_and_a_bare_repository,
-    two_pushes_at_once, what_an_ended_push_left)]
+    two_pushes_at_once, what_an_ended_push_left, a_checkout_that_was_changed_is_mended, entries_alone_take_one_session, else_both_are_scanned, as_a_checkout_writes_it, an_overlay_is_judged_among_its_masters,
+    lint_by_a_setting)]

@@ -3,12 +3,14 @@ import os
 import shutil
 
 import tools_hook
-from tools_common import TOP, checkout, content, needs, put, run
+from common import TOP, checkout, content, needs, put, run
 
 FILES = {
-    "bin/gvis": 0o755, "bin/gvis-causes": 0o755, "libexec/gvis/gvis": 0o755, "libexec/gvis/version": 0o644, "share/man/man1/gvis.1": 0o644,
+    "bin/gvis": 0o755, "bin/gvis-causes": 0o755, "bin/gvis-lrat": 0o755, "bin/gvis-watch": 0o755, "bin/gvis-language-server": 0o755,
+    "share/gvis/gvis_session.py": 0o644, "libexec/gvis/gvis": 0o755, "libexec/gvis/version": 0o644, "share/man/man1/gvis.1": 0o644,
     "share/bash-completion/completions/gvis": 0o644, "share/zsh/site-functions/_gvis": 0o644, "share/fish/vendor_completions.d/gvis.fish": 0o644,
-    "share/gvis/hooks/pre-push": 0o755}
+    "share/gvis/hooks/pre-push": 0o755, "share/gvis/causes.html": 0o644,
+    **{f"share/gvis/plain/{name}.py": 0o644 for name in ("backing", "plain", "plain_atoms", "plain_gates", "plain_profiles")}}
 BASE = {"PATH": os.environ["PATH"], "HOME": "/nonexistent"}
 
 
@@ -92,6 +94,31 @@ def installed_hook_finds_its_program(binary, folder):
     return (shutil.which("gvis", path=repository.env["PATH"]), repository.push()[:2]), (None, (False, [tools_hook.HIDDEN]))
 
 
+def installed_tools_work(binary, folder):
+    """Beside the program that was installed with them, where the checkout is gone."""
+    top, prefix = copy(binary, folder), os.path.join(folder, "prefix")
+    make(top, "install", f"PREFIX={prefix}")
+    shutil.move(top, top + " moved")
+    root, env = os.path.join(TOP, "examples/repo"), dict(BASE, PATH=prefix + "/bin:" + BASE["PATH"])
+    run(["gvis", "scan", root, "--certs", "C"], cwd=folder, env=env)
+    lrat = run(["gvis-lrat", "C", "out", "--tree", root], cwd=folder, env=env)
+    watch = run(["gvis-watch", "gone"], cwd=folder, env=env)
+    server = run(["gvis-language-server"], cwd=folder, env=env)
+    left = sorted(set(installed(prefix)) - set(FILES))
+    return (lrat[0], lrat[1].splitlines()[0], lrat[2], watch, server, left), (
+        0, "12 records in out: 10 refutations, 5 models", "", (1, "", "gvis-watch: gone is no folder\n"), (1, "", ""), [])
+
+
+def the_hook_asks_for_the_proved_program(binary, folder):
+    """Each of its calls says so to a launcher."""
+    repository = tools_hook.Repository(binary, folder)
+    put(folder, "bin/gvis", f'#!/bin/sh\necho "$GVIS_PROVED" >>{folder}/asked\nexec {binary} "$@"\n', 0o755)
+    tools_hook.mask(repository)
+    passed = repository.push()[0]
+    return (passed, set(content(folder, "asked").splitlines())), (False, {"1"})
+
+
 CASES = [needs("make")(case) for case in (
-    into_an_empty_prefix, below_a_destination, uninstall_leaves_what_others_have, fails_without_a_program, installed_program_that_is_gone)]
-CASES.append(needs("make", "git")(installed_hook_finds_its_program))
+    into_an_empty_prefix, below_a_destination, uninstall_leaves_what_others_have, fails_without_a_program, installed_program_that_is_gone,
+    installed_tools_work)]
+CASES += [needs("make", "git")(installed_hook_finds_its_program), needs("git")(the_hook_asks_for_the_proved_program)]

@@ -5,7 +5,7 @@ import re
 import shutil
 import textwrap
 
-from tools_common import TOP, content, put, run
+from common import TOP, content, entry, put, run
 
 
 def blocks(kind):
@@ -68,9 +68,27 @@ def gitlab_job(binary, folder):
         1, "", True, [("app-misc/tmux/tmux-3.4.ebuild", "major", 64)] * 2, 0, [])
 
 
+def overlay_job(binary, folder):
+    """An overlay with a package that needs one of its master and one that is nowhere, beside the small repository."""
+    how = prepare(binary, folder)
+    shutil.copytree(os.path.join(TOP, "examples/repo"), os.path.join(folder, "repo/repos/gentoo"))
+    needed = next(name for name in sorted(os.listdir(os.path.join(folder, "repo/app-editors"))) if name)
+    for path, text in {"metadata/layout.conf": "masters = gentoo\n", "app-editors/own/own-1.ebuild": "",
+                       "metadata/md5-cache/app-editors/own-1": entry(RDEPEND=f"app-editors/{needed} app-editors/nowhere")}.items():
+        put(folder, "repo/repos/overlay/" + path, text)
+    step = textwrap.dedent(re.search(r"^ +run: \|\n((?: {10}.*\n)+)", blocks("yaml")[2], re.M)[1])
+    status, out, err = run(["bash", "-e", "-o", "pipefail", "-c", step], **how)
+    put(folder, "repo/repos/overlay/metadata/md5-cache/app-editors/own-1", entry())
+    good = run(["bash", "-e", "-o", "pipefail", "-c", step], **how)
+    os.remove(os.path.join(folder, "repo/repos/overlay/metadata/layout.conf"))
+    bad = run(["bash", "-e", "-o", "pipefail", "-c", step], **how)[0]
+    return (status, err, [re.sub("::.*", "", line[2:]) for line in out.splitlines()], good, bad), (
+        1, "", ["error file=app-editors/own/own-1.ebuild,line=1,title=app-editors/nowhere"], (0, "", ""), 6)
+
+
 def recipes_keep_the_certificates(*_):
     """The file that the command writes is in the folder that is kept."""
-    return [bool(re.search(r"path(s: \[|: )\.gvis\b", block)) and "--certs .gvis/" in block for block in blocks("yaml")], [True, True]
+    return [bool(re.search(r"path(s: \[|: )\.gvis\b", block)) and "--certs .gvis/" in block for block in blocks("yaml")], [True, True, True]
 
 
-CASES = [plain_script, github_job, gitlab_job, recipes_keep_the_certificates]
+CASES = [plain_script, github_job, gitlab_job, overlay_job, recipes_keep_the_certificates]

@@ -4,9 +4,9 @@ import os
 import re
 import shutil
 
-from tools_common import TOP, content, needs, put, run
+from common import TOP, content, needs, put, run
 
-OUTSIDE = ["--help", "-h", "help", "--version"]
+OUTSIDE = ["--help", "-h", "help", "--version", "--prove"]
 
 
 def definitions(*path):
@@ -34,34 +34,41 @@ class Words:
         self.all = {name: parts[kind] for name, kind in named(table, "command_named word =").items()}
         self.taken = {name: sides for name, sides in self.all.items() if self.takes(binary, name)}
         self.values = {"--" + name for name in self.options}
-        self.keywords = re.findall(r'^keyword_text .* = codes "(\w+)"', definitions("gv_report/specs/Keyword.antt"), re.M)
+        keywords = definitions("gv_report/specs/Keyword.antt")
+        self.keywords = re.findall(r'^keyword_text .* = codes "(\w+)"', keywords, re.M)
+        takers = dict(it.split(" =", 1) for it in section(keywords, "taken_by Judging").split("taken_by ")[1:])
+        self.of_scan, self.of_lint = (re.findall(r"keywords\.(\w+)", takers[name]) for name in ("Judging", "Linting"))
         values = definitions("gv_words/specs/Values.antt")
         self.budget = re.search(r"budget_of None = Some (\d+)\nbudget_of .* = number_in (\d+) (\d+)", values).groups()
-        endings = definitions("gvis/specs/Endings.antt")
-        self.statuses = sorted({int(n) for n in re.findall(r"^refusal_status .* = (\d)$", endings, re.M)} | {0, 1})
+        endings = definitions("gv_run/specs/Endings.antt")
+        self.statuses = sorted({int(n) for n in re.findall(r"^refusal_status .* = (\d+)$", endings, re.M)} | {0, 1})
 
     def words(self, name, root="/nowhere"):
         """The least words of a command: a number is a root as well."""
         must = self.all[name][0]
-        return [name, "7" if name == "demo" else root] + [w for part in must if part != "Plain" for w in (part, "/dev/null")]
+        return [name, "7" if name == "demo" else root] + [w for part in must if part != "Plain" for w in (part, {"--of": "3", "--repo": "N"}.get(part, "/dev/null"))]
 
     def takes(self, binary, name):
         return run([binary, *self.words(name)])[0] != 2
+
+    def keywords_of(self, name):
+        """The kinds of reports that a command tells."""
+        return self.of_lint if name == "lint" else self.of_scan
 
     def behind(self, name):
         """The options of a command."""
         return {part for side in self.all[name] for part in side if part != "Plain"}
 
 
-def example(option, words):
-    """A good value of an option, or none for a flag."""
-    return {"--keywords": [words.keywords[0]], "--profiles": ["a/b"], "--budget": ["7"]}.get(option, ["/dev/null"] if option in words.values else [])
+def example(option, words, name):
+    """A good value of an option of a command, or none for a flag."""
+    return {"--keywords": words.keywords_of(name)[:1], "--profiles": ["a/b"], "--budget": ["7"], "--part": ["2/3"], "--of": ["3"], "--repo": ["N"]}.get(option, ["/dev/null"] if option in words.values else [])
 
 
 def the_table_is_read(binary, _):
     words = Words(binary)
-    return (list(words.all), "scan" in words.taken, len(words.keywords), len(words.behind("scan")), words.statuses), (
-        ["scan", "verify", "session", "demo"], True, 13, 6, list(range(9)))
+    return (list(words.all), "scan" in words.taken, words.of_scan + words.of_lint, len(words.of_lint), len(words.behind("scan")), words.statuses), (
+        ["scan", "overlay", "verify", "session", "demo", "merge", "lint"], True, words.keywords, 3, 7, [*range(9), 10])
 
 
 def the_program_takes_what_the_table_has(binary, _):
@@ -71,12 +78,20 @@ def the_program_takes_what_the_table_has(binary, _):
     for name in words.taken:
         for option in sorted({o for n in words.all for o in words.behind(n)}):
             must = option in words.all[name][0]
-            got[name, option] = run([binary, *words.words(name), *([] if must else [option, *example(option, words)])])[0] != 2
+            got[name, option] = run([binary, *words.words(name), *([] if must else [option, *example(option, words, name)])])[0] != 2
             want[name, option] = option in words.behind(name)
         if "--keywords" in words.behind(name):
             for keyword in words.keywords + ["Nothing"]:
                 got[name, keyword] = run([binary, *words.words(name), "--keywords", keyword])[0] != 2
-                want[name, keyword] = keyword != "Nothing"
+                want[name, keyword] = keyword in words.keywords_of(name)
+        for option, good, bad in (("--part", ["1/1", "1000/1000"], ["0/1", "2/1", "1/1001", "01/2", "1/02", "1", "1/2/3", "/2", "1/", "+1/2", "1/ 2"]),
+                                  ("--of", ["1", "1000"], ["0", "1001", "01", "x"]), ("--from", ["a", "a,a"], [",a", "a,", "a,,a"])):
+            if option in words.behind(name):
+                at = words.words(name).index(option) if option in words.all[name][0] else None
+                rest = words.words(name) if at is None else words.words(name)[:at] + words.words(name)[at + 2:]
+                for value in good + bad:
+                    got[name, option, value] = run([binary, *rest, f"{option}={value}"])[0] != 2
+                    want[name, option, value] = value in good
         if "--budget" in words.behind(name):
             _, least, most = map(int, words.budget)
             for n in (least - 1, least, most, most + 1):
@@ -89,8 +104,9 @@ def help_has_the_words(binary, _):
     words = Words(binary)
     shown = run([os.path.join(TOP, "gvis"), "--help"])[1]
     lines = {name: set(re.findall(r"--\w+", "".join(re.findall(rf"^  gvis {name} .*\n(?:       .*\n)*", shown, re.M)))) for name in re.findall(r"^  gvis (\w+)", shown, re.M)}
-    statuses = {int(n) for n in re.findall(r"\b([0-9]):", shown)} | set(range(*(int(n) + k for k, n in enumerate(re.search(r"(\d) to (\d): no", shown).groups()))))
-    return (lines, sorted(statuses), words.budget[0] in shown, len(shown.splitlines()) <= 12), (
+    told = re.search(r"(\d) to (\d), (\d+): no", shown).groups()
+    statuses = {int(n) for n in re.findall(r"\b([0-9]):", shown)} | set(range(int(told[0]), int(told[1]) + 1)) | {int(told[2])}
+    return (lines, sorted(statuses), words.budget[0] in shown, len(shown.splitlines()) <= 17), (
         {name: words.behind(name) for name in words.taken}, words.statuses, True, True)
 
 
@@ -110,7 +126,7 @@ def synopsis_has_the_words(binary, _):
         if command:
             got[command[1]] = sorted("-" + o for o in re.findall(r"^\.Fl (-\w+)", form, re.M)), sorted("-" + o for o in re.findall(r"^\.Op Fl (-\w+)", form, re.M))
     rest = set(re.findall(r"(?:Fl|Cm) (\S+)", part("SYNOPSIS").split(".Nm\n")[-1]))
-    return (got, rest), ({n: tuple(sorted(p for p in side if p != "Plain") for side in sides) for n, sides in words.taken.items()}, {"-help", "h", "help", "-version"})
+    return (got, rest), ({n: tuple(sorted(p for p in side if p != "Plain") for side in sides) for n, sides in words.taken.items()}, {word[1:] if word[0] == "-" else word for word in OUTSIDE})
 
 
 def manual_has_each_word_once(binary, _):
@@ -139,14 +155,17 @@ def each_word_has_an_example(binary, _):
 
 
 def examples_are_commands(binary, folder):
-    """Each example ends with 0 or 1 on the small repository, its certificates and its report."""
+    """Each example ends with 0 or 1 on the small repository, its certificates and its report, and on an overlay over it."""
     shutil.copytree(os.path.join(TOP, "examples/repo"), os.path.join(folder, "repo"))
+    shutil.copytree(os.path.join(TOP, "examples/repo"), os.path.join(folder, "repos/gentoo"))
+    put(folder, "repos/my-overlay/metadata/layout.conf", "masters = gentoo\n")
     put(folder, "report", run([binary, "scan", "repo", "--certs", "C"], cwd=folder)[1])
+    shutil.copy2(os.path.join(folder, "C"), os.path.join(folder, "whole"))
     got = {}
     for words, line in examples():
         if words[1] != "demo":
-            words[2] = "repo"
-        for option, file in (("--certs", "C"), ("--report", "report")):
+            words[2] = "repos" if words[1] == "overlay" else "repo"
+        for option, file in (("--certs", "C"), ("--report", "report"), ("--from", "whole")):
             words = [file if before == option else option + "=" + file if word.startswith(option + "=") else word for before, word in zip([""] + words, words)]
         given = {"stdin": None, "input": "report\nend\n"} if words[1] == "session" else {}
         got[line] = run([binary, *words[1:]], cwd=folder, **given)[0] in (0, 1)
@@ -168,7 +187,7 @@ def statuses_are_as_told(binary, folder):
     got = [run([binary, "scan", *words, "--certs=" + file], cwd=folder)[0] for words, file in [
         (["repo", "--keywords", "StaleCache"], "C"), (["repo"], "C"), (["repo", "--fresh=1"], "C"), (["repo"], "gone/C"),
         (["two", "--budget", "2"], "C"), (["gone"], "C"), (["large"], "C")]]
-    return got + [run([binary, "session", "repo"], cwd=folder)[0]], [0, 1, 2, 3, 4, 6, 7, 8]
+    return got + [run([binary, *words], cwd=folder)[0] for words in (["session", "repo"], ["merge", "repo", "--certs=M", "--from=none", "--of=2"])], [0, 1, 2, 3, 4, 6, 7, 8, 10]
 
 
 @needs("mandoc")

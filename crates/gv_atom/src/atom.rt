@@ -1,14 +1,14 @@
 //! An atom, as it was written.
-ghost use Rattle.std.specs.Prelude.{◌≡◌, IfOk};
+ghost use Rattle.std.specs.Prelude.{◌≡◌, true, IfOk};
 ghost use Rattle.gv_atom.specs.Items.{is_blocker};
 
-use crate::UseItems;
+use crate::{UseItem, UseItems};
 use gv_base::{NoMemory, Text};
 use gv_version::Version;
 use std::alloc::Global;
 
 /// Whether the atom blocks.
-#[derive(Clone, Copy, Debug)]
+#[derive(Clone, Copy, Debug, PartialEq, Eq)]
 pub enum Block {
     /// Nothing is written: the atom asks for a package.
     No,
@@ -19,7 +19,7 @@ pub enum Block {
 }
 
 /// An operator.
-#[derive(Clone, Copy, Debug)]
+#[derive(Clone, Copy, Debug, PartialEq, Eq)]
 pub enum CompareOp {
     /// `<`
     Less,
@@ -36,7 +36,7 @@ pub enum CompareOp {
 }
 
 /// What a slot part asks for.
-#[derive(Drop)]
+#[derive(Drop, PartialEq)]
 pub enum SlotNeed {
     /// Any slot, also where no slot part is written.
     Any,
@@ -47,7 +47,7 @@ pub enum SlotNeed {
 }
 
 /// The mark of a slot part as it was written.
-#[derive(Clone, Copy, Debug)]
+#[derive(Clone, Copy, Debug, PartialEq, Eq)]
 pub enum SlotMark {
     /// None.
     Plain,
@@ -118,6 +118,16 @@ impl Atom {
         }
     }
 
+    /// Whether both are one and the same atom. O(bytes before the first that differs), without memory.
+    pub fn is_same(&self, other: &Atom) -> bool
+        ensures yes { result ≡ true → self.now ≡ other.now }
+        ensures no { self.now ≡ other.now → result ≡ true }
+    {
+        same_parts(self, other)
+            && same_signs(self, other)
+            && same_items(self.items.items(), other.items.items())
+    }
+
     /// The same atom once more. O(bytes).
     pub fn copy(&self, alloc: Global) -> Result<Atom, NoMemory>
         ensures { IfOk result (λ atom. atom ≡ self.now) }
@@ -134,4 +144,58 @@ impl Atom {
             items: self.items.copy(alloc)?,
         })
     }
+}
+
+// What is written in words.
+fn same_parts(a: &Atom, b: &Atom) -> bool
+    ensures yes { result ≡ true → (a.now.name ≡ b.now.name) × (a.now.category ≡ b.now.category) × (a.now.version ≡ b.now.version) × (a.now.slot ≡ b.now.slot) }
+    ensures no { a.now ≡ b.now → result ≡ true }
+{
+    a.name == b.name
+        && a.category == b.category
+        && same_version(&a.version, &b.version)
+        && a.slot == b.slot
+}
+
+// And in signs.
+fn same_signs(a: &Atom, b: &Atom) -> bool
+    ensures yes { result ≡ true → (a.now.block ≡ b.now.block) × (a.now.op ≡ b.now.op) × (a.now.star ≡ b.now.star) × (a.now.mark ≡ b.now.mark) }
+    ensures no { a.now ≡ b.now → result ≡ true }
+{
+    a.star == b.star && a.block == b.block && a.op == b.op && a.mark == b.mark
+}
+
+fn same_version(a: &Option<Version>, b: &Option<Version>) -> bool
+    ensures yes { result ≡ true → a.now ≡ b.now }
+    ensures no { a.now ≡ b.now → result ≡ true }
+{
+    match (a, b) {
+        (None, None) => true,
+        (Some(a), Some(b)) => a.text() == b.text(),
+        _ => false,
+    }
+}
+
+fn same_items(a: &[UseItem], b: &[UseItem]) -> bool
+    ensures yes { result ≡ true → a.now ≡ b.now }
+    ensures no { a.now ≡ b.now → result ≡ true }
+{
+    let mut rest = b;
+    for item in a {
+        let [first, more @ ..] = rest else {
+            return false;
+        };
+        if !same_item(item, first) {
+            return false;
+        }
+        rest = more;
+    }
+    rest.is_empty()
+}
+
+fn same_item(a: &UseItem, b: &UseItem) -> bool
+    ensures yes { result ≡ true → a.now ≡ b.now }
+    ensures no { a.now ≡ b.now → result ≡ true }
+{
+    a.flag == b.flag && a.ask == b.ask && a.missing == b.missing
 }

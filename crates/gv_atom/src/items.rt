@@ -8,7 +8,7 @@ use std::marker::Model;
 
 /// What an item asks of a flag of the candidate. The last four look at the parent's flag: that of the same name of the
 /// package that has the atom.
-#[derive(Clone, Copy, Debug)]
+#[derive(Clone, Copy, Debug, PartialEq, Eq)]
 pub enum Ask {
     /// `f`
     On,

@@ -4,10 +4,15 @@ use Rattle.std.specs.List.{AllByRecursion, flat_map}
 use Rattle.gv_base.specs.Cut.{after_prefix}
 use Rattle.gv_cert.specs.Numbers.{length_bytes}
 use Rattle.gv_cert.specs.Known.{KnownRecord}
+use Rattle.gv_cert.specs.Migration.{AreTurned}
 
--- `gviscert1` and a line feed
+-- `gviscert2` and a line feed
 unfoldable pub header : List ℕ
-header = codes "gviscert1\n"
+header = codes "gviscert2\n"
+
+-- `gviscert1` and a line feed: a file of the first version, which is read and never written
+unfoldable pub first_header : List ℕ
+first_header = codes "gviscert1\n"
 
 -- bytes behind their length
 abbrev pub run_bytes : List ℕ → List ℕ
@@ -38,11 +43,18 @@ pub record ReadsRecords (bytes : List ℕ) (known : List KnownRecord) : Type 0 w
   pub formed : AllByRecursion IsRecord known
   pub ended : (r : KnownRecord) (after : List ℕ) → IsRecord r → rest ≡ record_bytes r ++ after → ⊥
 
--- where the header isn't there, no records
-abbrev pub ReadsBehind : Option (List ℕ) → List KnownRecord → Type 0
-ReadsBehind None known = known ≡ []
-ReadsBehind (Some bytes) known = ReadsRecords bytes known
+-- of records of the first version, those that can be turned into the second, in order
+pub record ReadsFirst (bytes : List ℕ) (known : List KnownRecord) : Type 0 where
+  pub old : List KnownRecord
+  pub read : ReadsRecords bytes old
+  pub turned : AreTurned old known
+
+-- what follows the header, or else what follows that of the first version; with neither, no records
+abbrev pub ReadsBehind : (second first : Option (List ℕ)) → List KnownRecord → Type 0
+ReadsBehind (Some bytes) first known = ReadsRecords bytes known
+ReadsBehind None (Some bytes) known = ReadsFirst bytes known
+ReadsBehind None None known = known ≡ []
 
 -- the records that a file of these bytes has
 abbrev pub ReadsFile : List ℕ → List KnownRecord → Type 0
-ReadsFile bytes known = ReadsBehind (after_prefix header bytes) known
+ReadsFile bytes known = ReadsBehind (after_prefix header bytes) (after_prefix first_header bytes) known

@@ -2,7 +2,7 @@
 //!
 //! `insert` copies both, and the query once more for the index where it is new there; `find` costs O(bytes of the query),
 //! O(log n) comparisons of numbers for n distinct queries, one of queries and O(log n) more among those of one hash, and a
-//! binary search among the numbers of the query's records. The rest costs O(1), and a copy what is copied.
+//! binary search among the numbers of the query's records. The rest costs O(1), and `append` and a copy what is copied.
 ghost use Rattle.std.specs.Prelude.{◌≡◌, ◌+◌, nat_lt, ◌<◌, ◌^◌, List, [], ◌∷◌, ◌++◌, length, filter, IfOk, OnOk, OnErr};
 ghost use Rattle.gv_cert.specs.Index.{is_from};
 ghost use Rattle.gv_cert.specs.Known.{record_at, answer_at, Finds};
@@ -74,6 +74,15 @@ impl Known {
         ensures ok { OnOk result (self.new ≡ self.old ++ record { query = query.now; answer = answer.now } ∷ []) }
         ensures err { OnErr result (self.new ≡ self.old) }
     {
+        let answer = Text::of(self.alloc, answer)?;
+        self.keep(query, answer)
+    }
+
+    // `insert` for an answer that is handed over.
+    pub(crate) fn keep(&mut self, query: &[u8], answer: Text) -> Result<(), NoMemory>
+        ensures ok { OnOk result (self.new ≡ self.old ++ record { query = query.now; answer = answer } ∷ []) }
+        ensures err { OnErr result (self.new ≡ self.old) }
+    {
         let kept = kept_of(self.alloc, query, answer)?;
         self.records.reserve(1)?;
         let number = next_number(self.records.len())?;
@@ -120,23 +129,30 @@ impl Known {
         kept.answer.bytes()
     }
 
+    /// Adds the records of another list at the end, in order. After an error some of them may stand there.
+    pub fn append(&mut self, other: &Known) -> Result<(), NoMemory>
+        ensures { OnOk result (self.new ≡ self.old ++ other.now) }
+    {
+        for number in 0..other.count() {
+            self.take(other.query(number), other.answer(number))?;
+        }
+        Ok(())
+    }
+
     /// The same records once more.
     pub fn copy(&self, alloc: Global) -> Result<Known, NoMemory>
         ensures { IfOk result (λ known. known ≡ self.now) }
     {
         let mut known = Known::new(alloc);
-        for number in 0..self.count() {
-            known.take(self.query(number), self.answer(number))?;
-        }
+        known.append(self)?;
         Ok(known)
     }
 }
 
-fn kept_of(alloc: Global, query: &[u8], answer: &[u8]) -> Result<Kept, NoMemory>
-    ensures { IfOk result (λ kept. kept ≡ record { query = query.now; answer = answer.now }) }
+fn kept_of(alloc: Global, query: &[u8], answer: Text) -> Result<Kept, NoMemory>
+    ensures { IfOk result (λ kept. kept ≡ record { query = query.now; answer = answer }) }
 {
     let query = Text::of(alloc, query)?;
-    let answer = Text::of(alloc, answer)?;
     Ok(Kept { query, answer })
 }
 

@@ -1,5 +1,5 @@
 -- One more use of gates: a certificate that is there, or a new one.
-use Rattle.std.proofs.Common.{◌≡◌, ℕ, zero, suc, ◌+◌, ◌^◌, ◌<◌, Bool, true, false, not, ◌||◌, if◌then◌else◌, List, [], ◌∷◌, ◌++◌, length, map, filter, refl, sym, ap, subst, ◌∙◌, Option, Some, None, length-append, arith}
+use Rattle.std.proofs.Common.{◌≡◌, ℕ, zero, suc, ◌+◌, ◌<◌, Bool, true, false, not, ◌||◌, if◌then◌else◌, List, [], ◌∷◌, ◌++◌, length, map, filter, refl, sym, ap, subst, ◌∙◌, Option, Some, None, length-append, arith}
 use Rattle.std.specs.Prelude.{slice_get, Ok}
 use Rattle.std.specs.List.{AllByRecursion}
 use Rattle.std.specs.Str.{bytes_eq}
@@ -13,15 +13,16 @@ use Rattle.gv_base.specs.Counts.{Counts}
 use Rattle.gv_base.specs.Order.{has_text}
 use Rattle.gv_base.specs.Steps.{after}
 use Rattle.gv_base.specs.declared.steps.Kind.TheVariants.{Solve}
-use Rattle.gv_cert.specs.Claim.{HasInputs, IsAnswer, IsLog, claim_bytes, log_of}
-use Rattle.gv_cert.specs.Backing.{IsFirstBacked, NoneBacked}
+use Rattle.gv_cert.specs.Claim.{HasInputs, IsAnswerTo, IsLog, answer_bytes, log_of}
+use Rattle.gv_logic.specs.Encoding.{clause_count}
+use Rattle.gv_cert.specs.Backing.{IsFirstBacked}
 use Rattle.gv_cert.specs.Known.{Finds, HasQuery, IsNext, KnownRecord}
 use Rattle.gv_cert.specs.declared.claim.Claim.{Claim}
 use Rattle.gv_cert.specs.declared.claim.Claim.TheVariants.{Refuted, Found}
 use Rattle.gv_logic.specs.Bytes.{circuit_bytes}
 use Rattle.gv_logic.specs.Circuits.{Circuit, IsCircuit}
 use Rattle.gv_logic.specs.Laws.{CircuitLaw}
-use Rattle.gv_query.specs.Asking.{Comes, IsAnswered, IsSpent}
+use Rattle.gv_query.specs.Asking.{Comes, IsAnswered}
 use Rattle.gv_query.specs.Truth.{IsSo}
 use Rattle.gv_checks.specs.Asked.{found_bits}
 use Rattle.gv_checks.specs.Certs.{Cert, HasBacked, IsCert, cert_record, counts_after, first_uses, has_gates, new_count, with_use}
@@ -163,18 +164,6 @@ first_is g budget given claim reused e answered =
     let first : IsFirstBacked g given claim = subst (λ r. Comes r g budget given claim) e answered.comes in
     (first.number, record { has = first.has; backed = record { claim = claim; formed = first.formed; written = first.written; backs = first.backs } })
 
--- what the records know of gates, with whatever budget
-pub is_recalled : (g : Circuit) (budget : ℕ) (given : List KnownRecord) (claim : Claim) → IsFirstBacked g given claim → IsSo g claim → IsAnswered g budget given claim true
-is_recalled g budget given claim first so = record { so = so; backed = first.backs; comes = first }
-
-some_bits : (n : ℕ) → 0 < 2 ^ n
-some_bits zero = omega arith
-some_bits (suc n) = let h = some_bits n in omega (arith, h)
-
--- and where there is no budget, that none is backed
-pub none_recalled : (g : Circuit) (budget : ℕ) (given : List KnownRecord) → budget ≡ 0 → NoneBacked g given → IsSpent g budget given []
-none_recalled g budget given e none = record { none = none; kept = tt; count = sym e; wide = subst (λ b. b < 2 ^ g.inputs) (sym e) (some_bits g.inputs) }
-
 module _ (law : CircuitLaw) (budget : ℕ) (given : List KnownRecord) (start : Counts) (gates : List Circuit) (used : Used) (lowered : ℕ) (before : Counts) (g : Circuit) (w : IsCircuit g) (are : AreUsed budget given start gates used lowered before) where
   module _ (n : ℕ) (has : HasQuery (circuit_bytes g) used.certs n) where
     at : AtCert budget given (circuit_bytes g) are.certs n
@@ -211,8 +200,8 @@ module _ (law : CircuitLaw) (budget : ℕ) (given : List KnownRecord) (start : C
         let cert : IsCert budget given at.cert = at.backed are.are.backed in
         subst (HasBacked given) (law at.cert.gates g (at.formed are.formed) w at.same) (first_is at.cert.gates budget given at.cert.claim at.cert.reused (at.reused (are.reused none)) cert.answered)
 
-  module _ (new : Used) (now : Counts) (claim : Claim) (reused : Bool) (none : Finds (circuit_bytes g) 0 used.certs None) (formed : IsAnswer g.inputs claim) (answered : IsAnswered g budget given claim reused)
-      (kept : new.certs ≡ used.certs ++ record { query = circuit_bytes g; answer = claim_bytes claim } ∷ []) (found : new.found.items ≡ used.found.items ++ found_bits claim ∷ [])
+  module _ (new : Used) (now : Counts) (claim : Claim) (reused : Bool) (none : Finds (circuit_bytes g) 0 used.certs None) (formed : IsAnswerTo g claim) (answered : IsAnswered g budget given claim reused)
+      (kept : new.certs ≡ used.certs ++ record { query = circuit_bytes g; answer = answer_bytes g claim } ∷ []) (found : new.found.items ≡ used.found.items ++ found_bits claim ∷ [])
       (counted : now ≡ (if reused then before else after Solve before)) (known : budget ≡ 0 → reused ≡ true) where
     abbrev cert : Cert
     cert = record { gates = g; claim = claim; reused = reused }
@@ -254,7 +243,7 @@ has_inputs : (g : Circuit) (claim : Claim) → IsSo g claim → HasInputs g.inpu
 has_inputs g (Refuted log) so = tt
 has_inputs g (Found bits log) so = so.size
 
-pub formed_by : (g : Circuit) (claim : Claim) → IsSo g claim → IsLog (log_of claim) → IsAnswer g.inputs claim
+pub formed_by : (g : Circuit) (claim : Claim) → IsSo g claim → IsLog (clause_count g) (log_of claim) → IsAnswerTo g claim
 formed_by g claim so sized = record { inputs_are = has_inputs g claim so; sized = sized }
 
 module _ (law : CircuitLaw) (budget : ℕ) (given : List KnownRecord) (g : Circuit) (w : IsCircuit g) (used : Used) (before : Counts) (some : AreSome budget given used before) (b : List ℕ) (bytes : b ≡ circuit_bytes g) where
@@ -279,19 +268,19 @@ module _ (law : CircuitLaw) (budget : ℕ) (given : List KnownRecord) (g : Circu
         has,
       )
 
-  pub new_place : (new : Used) (now : Counts) (claim : Claim) (reused : Bool) (q a : List ℕ) (place : ℕ) → q ≡ circuit_bytes g → Finds b 0 used.certs None → IsLog (log_of claim) → a ≡ claim_bytes claim
+  pub new_place : (new : Used) (now : Counts) (claim : Claim) (reused : Bool) (q a : List ℕ) (place : ℕ) → q ≡ circuit_bytes g → Finds b 0 used.certs None → IsLog (clause_count g) (log_of claim) → a ≡ answer_bytes g claim
       → IsAnswered g budget given claim reused → new.certs ≡ used.certs ++ record { query = q; answer = a } ∷ [] → new.found.items ≡ used.found.items ++ found_bits claim ∷ []
       → now ≡ (if reused then before else after Solve before) → (budget ≡ 0 → reused ≡ true) → place ≡ length used.found.items → Uses budget given g used new before now (Ok place)
   new_place new now claim reused q a place written none sized is answered kept found counted known here =
       let free : Finds (circuit_bytes g) 0 used.certs None = subst (λ x. Finds x 0 used.certs None) bytes none in
-      let formed : IsAnswer g.inputs claim = formed_by g claim answered.so sized in
-      let all : new.certs ≡ used.certs ++ record { query = circuit_bytes g; answer = claim_bytes claim } ∷ [] = kept ∙ (rw (written, is) refl) in (
+      let formed : IsAnswerTo g claim = formed_by g claim answered.so sized in
+      let all : new.certs ≡ used.certs ++ record { query = circuit_bytes g; answer = answer_bytes g claim } ∷ [] = kept ∙ (rw (written, is) refl) in (
         λ start gates lowered are. new_use law budget given start gates used lowered before g w are new now claim reused free formed answered all found counted known,
         subst (IsFoundAt g new) (sym here) (new_found law budget given some.start some.gates used some.lowered before g w some.are new now claim reused free formed answered all found counted known),
         λ zero_is. first_is g budget given claim reused (known zero_is) answered,
-        λ query m there. subst (λ (k : List KnownRecord). HasQuery query k m) (sym all) (grows_more used.certs (record { query = circuit_bytes g; answer = claim_bytes claim }) query m there),
+        λ query m there. subst (λ (k : List KnownRecord). HasQuery query k m) (sym all) (grows_more used.certs (record { query = circuit_bytes g; answer = answer_bytes g claim }) query m there),
         subst (λ (k : List KnownRecord). HasQuery (circuit_bytes g) k place) (sym all)
-            (subst (λ m. HasQuery (circuit_bytes g) (used.certs ++ record { query = circuit_bytes g; answer = claim_bytes claim } ∷ []) m) number (last_has used.certs (record { query = circuit_bytes g; answer = claim_bytes claim }))),
+            (subst (λ m. HasQuery (circuit_bytes g) (used.certs ++ record { query = circuit_bytes g; answer = answer_bytes g claim } ∷ []) m) number (last_has used.certs (record { query = circuit_bytes g; answer = answer_bytes g claim }))),
       )
     where
       number : length used.certs ≡ place

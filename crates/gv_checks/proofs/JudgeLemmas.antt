@@ -100,6 +100,6 @@ query_judged budget given q g old new before lowered now e formed within ticked 
 -- it is refused
 pub query_refused : (budget : ℕ) (given : List KnownRecord) (q : Query) (old : Progress) (before : Counts) (fault : JudgeFault) → Cause budget given q fault
     → (start : Outset) (done rest : List Query) → IsAt budget given start done old before → Stops budget given (done ++ (q ∷ [] ++ rest)) old.queries fault
-query_refused budget given q old before (Spent name sets) cause start done rest at = record { before = done; query = q; behind = rest; queries_are = refl; within = at.within; backed = at.backed; count_is = at.queries_are; cause = cause }
-query_refused budget given q old before (Limit place number) cause start done rest at = record { before = done; query = q; behind = rest; queries_are = refl; within = at.within; backed = at.backed; count_is = at.queries_are; cause = cause }
+query_refused budget given q old before (Spent name sets) cause start done rest at = record { before = done; query = q; behind = rest; queries_are = refl; within = at.within; certs = at.used.certs; are = at.used.are; backed = at.backed; count_is = at.queries_are; cause = cause }
+query_refused budget given q old before (Limit place number) cause start done rest at = record { before = done; query = q; behind = rest; queries_are = refl; within = at.within; certs = at.used.certs; are = at.used.are; backed = at.backed; count_is = at.queries_are; cause = cause }
 query_refused budget given q old before NoMemory cause start done rest at = tt

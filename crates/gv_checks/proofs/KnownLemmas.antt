@@ -4,7 +4,7 @@ use Rattle.std.specs.Prelude.{option_map, Result, Ok, Err}
 use Rattle.gv_base.specs.Counts.{Counts}
 use Rattle.gv_base.specs.Steps.{after}
 use Rattle.gv_base.specs.declared.steps.Kind.TheVariants.{Lower}
-use Rattle.gv_cert.specs.Claim.{IsAnswer, claim_bytes}
+use Rattle.gv_cert.specs.Claim.{IsAnswerTo, answer_bytes}
 use Rattle.gv_cert.specs.Backing.{IsFirstBacked}
 use Rattle.gv_cert.specs.Known.{KnownRecord}
 use Rattle.gv_cert.specs.declared.claim.Claim.{Claim}
@@ -24,7 +24,7 @@ use Rattle.gv_checks.specs.declared.one.Found1.{Found1}
 use Rattle.gv_load.specs.declared.loading.Repo.{Repo}
 
 pub knows_found : (given : List KnownRecord) (q : Query) (g : Circuit) (claim : Claim) (f : Found1) → IsWithin q → g ≡ gates_of q → IsFirstBacked g given claim → IsSo g claim
-    → f.query ≡ gates_bytes q → IsAnswer (gates_of q).inputs claim → f.answer ≡ claim_bytes claim → f.witness ≡ option_map (witness_of q) (least_of q) → f.report ≡ query_report q → f.reused ≡ true
+    → f.query ≡ gates_bytes q → IsAnswerTo (gates_of q) claim → f.answer ≡ answer_bytes (gates_of q) claim → f.witness ≡ option_map (witness_of q) (least_of q) → f.report ≡ query_report q → f.reused ≡ true
     → Knows given q (Ok (Some f))
 knows_found given q g claim f within gates first so query formed answer witness report reused = (
   λ budget. record {

@@ -17,14 +17,14 @@ use Rattle.gv_lower.specs.Lowering.{IsQuery, Lowered, LoweredAllowed, LoweredFai
 use Rattle.gv_lower.specs.declared.query.LowerFault.{LowerFault}
 use Rattle.gv_lower.specs.declared.query.Query.{Query}
 use Rattle.gv_visible.specs.Candidates.{Candidates, pkgs_of}
-use Rattle.gv_checks.specs.Asked.{asked_flags, asked_gates, asked_items, asked_weight}
+use Rattle.gv_checks.specs.Asked.{asked_flags, asked_gates, asked_items, asked_preferred, asked_weight}
 use Rattle.gv_checks.specs.Classes.{is_whole}
 use Rattle.gv_checks.specs.Context.{AreAround, case_of}
-use Rattle.gv_checks.specs.Queries.{flags_of, gates_of, has_query, items_of, query_of, required_of, weight_of}
+use Rattle.gv_checks.specs.Queries.{flags_of, gates_of, has_query, items_of, preferred_of, query_of, required_of, weight_of}
 use Rattle.gv_checks.specs.declared.context.JudgedPkg.{JudgedPkg}
 
 abbrev AskedLowered : Parent → List Req → Option (List Dep) → Result Query LowerFault → Type 0
-AskedLowered c required class r = Lowered (asked_flags c required class) (asked_weight c required class) (IsQuery (asked_gates c required class) (asked_flags c required class) (asked_items c required class)) r
+AskedLowered c required class r = Lowered (asked_flags c required class) (asked_weight c required class) (IsQuery (asked_gates c required class) (asked_flags c required class) (asked_items c required class) (asked_preferred c required class)) r
 
 pub the_some : {X : Type 0} (o : Option X) → IsSome o → (x : X) × (o ≡ Some x)
 the_some None h = absurd (false≢true h)
@@ -50,7 +50,7 @@ module _ {F : Type 0} (pre : Bor Pkg → Type 0) (post : Bor Pkg → Bool → Ty
     required = the_some j.body.now.required (whole j class has)
 
     asked_lowered : (dep : Option (List Dep)) → class_in j.body.now class ≡ dep → AskedLowered (parent_of candidates j.pkg.now) required.0 dep r
-        → let q = query_of (case_of j) class in Lowered (flags_of q) (weight_of q) (IsQuery (gates_of q) (flags_of q) (items_of q)) r
+        → let q = query_of (case_of j) class in Lowered (flags_of q) (weight_of q) (IsQuery (gates_of q) (flags_of q) (items_of q) (preferred_of q)) r
     asked_lowered dep e lowered =
         subst (λ d. AskedLowered (case_of j).parent (required_of (query_of (case_of j) class)) d r) (sym e)
         (subst (λ x. AskedLowered (case_of j).parent x dep r) (sym (ap (λ o. unwrap_or o []) required.1))
@@ -58,10 +58,10 @@ module _ {F : Type 0} (pre : Bor Pkg → Type 0) (post : Bor Pkg → Bool → Ty
 
     pub allowed_lowered : class_in j.body.now class ≡ None
         → ((pkg : Pkg) (x : List Req) → slice_get (pkgs_of candidates) j.number ≡ Some pkg → j.body.now.required ≡ Some x → LoweredAllowed (parent_of candidates pkg) x r)
-        → let q = query_of (case_of j) class in Lowered (flags_of q) (weight_of q) (IsQuery (gates_of q) (flags_of q) (items_of q)) r
+        → let q = query_of (case_of j) class in Lowered (flags_of q) (weight_of q) (IsQuery (gates_of q) (flags_of q) (items_of q) (preferred_of q)) r
     allowed_lowered none lowered = asked_lowered None none (lowered j.pkg.now required.0 numbered required.1)
 
     pub failing_lowered : (items : List Dep) → class_in j.body.now class ≡ Some items
         → ((pkg : Pkg) (x : List Req) (d : List Dep) → slice_get (pkgs_of candidates) j.number ≡ Some pkg → j.body.now.required ≡ Some x → class_in j.body.now class ≡ Some d → LoweredFailing (parent_of candidates pkg) x d r)
-        → let q = query_of (case_of j) class in Lowered (flags_of q) (weight_of q) (IsQuery (gates_of q) (flags_of q) (items_of q)) r
+        → let q = query_of (case_of j) class in Lowered (flags_of q) (weight_of q) (IsQuery (gates_of q) (flags_of q) (items_of q) (preferred_of q)) r
     failing_lowered items some lowered = asked_lowered (Some items) some (lowered j.pkg.now required.0 items numbered required.1 some)

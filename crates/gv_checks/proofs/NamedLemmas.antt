@@ -1,9 +1,11 @@
 -- The query of a name, as it is found, and that there is no other.
-use Rattle.std.proofs.Common.{◌≡◌, ℕ, ◌<◌, Bool, true, false, List, [], ◌∷◌, ◌++◌, length, map, filter, ◌+◌, arith, get_or, refl, sym, ap, subst, ◌∙◌, append_assoc, Option, Some, None}
+-- It is found by going through the profiles for the line of the name.
+use Rattle.std.proofs.Common.{◌≡◌, ℕ, ◌<◌, ◌≤◌, ◌⊎◌, inl, inr, Bool, true, false, List, [], ◌∷◌, ◌++◌, length, map, filter, ◌+◌, arith, get_or, refl, sym, ap, subst, ◌∙◌, append_assoc, Option, Some, None}
 use Rattle.std.specs.Prelude.{slice_get, flat_map, filter_map, unwrap_or, Result, Ok, Err}
 use Rattle.std.specs.List.{AllByRecursion}
 use Rattle.std.proofs.lemmas.Bool.{and_parts}
-use Rattle.std.proofs.lemmas.Option.{slice_get-get_or}
+use Rattle.std.proofs.lemmas.Option.{none-some, slice_get-get_or, slice_get_within}
+use Rattle.std.proofs.Math.Nat.{eq-or-lt_of_le}
 use Rattle.std.proofs.lemmas.Grind.{flat_map-append}
 use Rattle.gv_cert.specs.Known.{KnownRecord}
 use Rattle.gv_entry.specs.declared.entry.Body.{Body}
@@ -16,12 +18,13 @@ use Rattle.gv_report.specs.declared.options.Options.{Options}
 use Rattle.gv_checks.specs.Answered.{AnswersOne}
 use Rattle.gv_checks.specs.Cases.{Case, Member, case_at, case_in, cases_of, members_from}
 use Rattle.gv_checks.specs.Classes.{classes}
-use Rattle.gv_checks.specs.Named.{AnswersNamed, HaveOwnLines, IsNamed}
+use Rattle.gv_checks.specs.Named.{AnswersNamed, HasNamed, IsNamed, IsNamedIn}
 use Rattle.gv_checks.specs.Queries.{Query, case_queries, has_query, is_asked, is_selected, queries, query_name, query_of}
 use Rattle.gv_checks.specs.declared.fault.JudgeFault.{JudgeFault}
 use Rattle.gv_checks.specs.declared.fault.JudgeFault.TheVariants.{Spent, Limit, NoMemory}
 use Rattle.gv_checks.specs.declared.names.QueryName.{QueryName}
 use Rattle.gv_checks.specs.declared.one.Found1.{Found1}
+use Rattle.gv_load.specs.OwnLines.{HaveOwnLines}
 use Rattle.gv_load.specs.declared.loading.Repo.{Repo}
 
 pub answers_named : (o : Options) (given : List KnownRecord) (repo : Repo) (name : QueryName) (q : Query) (r : Result Found1 JudgeFault) → IsNamed o repo name q → AnswersOne o.budget given q r → AnswersNamed o given repo name r
@@ -30,27 +33,85 @@ answers_named o given repo name q (Err (Spent n sets)) named a = record { query 
 answers_named o given repo name q (Err (Limit place number)) named a = record { query = q; named = named; cause = a }
 answers_named o given repo name q (Err NoMemory) named a = tt
 
-name_at : (name : QueryName) (line : ℕ) (level : Level) → line ≡ name.context.line → level ≡ name.context.level
-    → name ≡ record { «package» = name.«package»; class = name.class; context = record { line = line; level = level } }
-name_at name line level l k = rw (l, k) refl
+name_at : (name : QueryName) (number line : ℕ) (level : Level) → number ≡ name.«package» → line ≡ name.context.line → level ≡ name.context.level
+    → name ≡ record { «package» = number; class = name.class; context = record { line = line; level = level } }
+name_at name number line level n l k = rw (n, l, k) refl
 
 pub has_asked : (o : Options) (c : Case) (class : Class) → is_asked o c class ≡ true → has_query c class ≡ true
 has_asked o c class e = (and_parts (has_query c class) (is_selected o c class) e).0
 
-pub named_here : (o : Options) (repo : Repo) (name : QueryName) (pkg : Pkg) (body : Body) (profiles : List Profile) (profile : Profile) (i : ℕ) (level : Level)
-    → slice_get repo.pkgs name.«package» ≡ Some pkg → slice_get repo.bodies name.«package» ≡ Some body → profiles ≡ repo.profiles → i < length profiles → profile ≡ get_or profiles i profile
-    → profile.line ≡ name.context.line → judged pkg profile ≡ Some level → level ≡ name.context.level
-    → let c : Case = case_at repo.pkgs (record { number = name.«package»; pkg = pkg; body = body }) profile level in is_asked o c name.class ≡ true → IsNamed o repo name (query_of c name.class)
-named_here o repo name pkg body profiles profile i level p b same lt here line is_level level_is asked = record {
-  name_is = name_at name profile.line level line level_is;
+pub named_here : (o : Options) (repo : Repo) (name : QueryName) (m : Member) (profiles : List Profile) (profile : Profile) (i : ℕ) (level : Level)
+    → m.number ≡ name.«package» → slice_get repo.pkgs m.number ≡ Some m.pkg → slice_get repo.bodies m.number ≡ Some m.body → profiles ≡ repo.profiles → i < length profiles → profile ≡ get_or profiles i profile
+    → IsNamedIn o repo.pkgs name m profile level → IsNamed o repo name (query_of (case_at repo.pkgs m profile level) name.class)
+named_here o repo name m profiles profile i level n p b same lt here at = record {
+  name_is = name_at name m.number profile.line level n at.line_is at.level_is;
   pkg = p;
   body = b;
   line = i;
   profile = subst (λ l. slice_get l i ≡ Some profile) same (slice_get-get_or profiles i profile lt ∙ ap Some (sym here));
-  level = is_level;
+  level = at.judged_is;
   case = refl;
-  asked = asked;
+  asked = at.asked;
 }
+
+-- Where there is a query of the name, it is found.
+same_some : {X : Type 0} (a b : X) → Some a ≡ Some b → a ≡ b
+same_some a b e = ap (λ o. unwrap_or o a) e
+
+abbrev member_with : ℕ → Pkg → Body → Member
+member_with n p b = record { number = n; pkg = p; body = b }
+
+same_member : (m n : Member) → m.number ≡ n.number → m.pkg ≡ n.pkg → m.body ≡ n.body → m ≡ n
+same_member m n a b c = ap (λ x. member_with x m.pkg m.body) a ∙ (ap (λ x. member_with n.number x m.body) b ∙ ap (λ x. member_with n.number n.pkg x) c)
+
+pub pkg_there : (o : Options) (repo : Repo) (name : QueryName) → HasNamed o repo name → slice_get repo.pkgs name.«package» ≡ None → ⊥
+pkg_there o repo name there none = none-some there.0.case.member.pkg (sym none ∙ (ap (λ (n : QueryName). slice_get repo.pkgs n.«package») there.1.name_is ∙ there.1.pkg))
+
+pub body_there : (o : Options) (repo : Repo) (name : QueryName) → HasNamed o repo name → slice_get repo.bodies name.«package» ≡ None → ⊥
+body_there o repo name there none = none-some there.0.case.member.body (sym none ∙ (ap (λ (n : QueryName). slice_get repo.bodies n.«package») there.1.name_is ∙ there.1.body))
+
+module _ (o : Options) (repo : Repo) (name : QueryName) (m : Member) (n : m.number ≡ name.«package») (p : slice_get repo.pkgs m.number ≡ Some m.pkg) (b : slice_get repo.bodies m.number ≡ Some m.body) where
+  module _ (q : Query) (named : IsNamed o repo name q) where
+    number_is : m.number ≡ q.case.member.number
+    number_is = n ∙ ap (λ (x : QueryName). x.«package») named.name_is
+
+    pkg_is : m.pkg ≡ q.case.member.pkg
+    pkg_is = same_some m.pkg q.case.member.pkg (sym p ∙ (ap (slice_get repo.pkgs) number_is ∙ named.pkg))
+
+    body_is : m.body ≡ q.case.member.body
+    body_is = same_some m.body q.case.member.body (sym b ∙ (ap (slice_get repo.bodies) number_is ∙ named.body))
+
+    member_is : q.case.member ≡ m
+    member_is = sym (same_member m q.case.member number_is pkg_is body_is)
+
+    in_its_profile : IsNamedIn o repo.pkgs name m q.case.parent.profile q.case.parent.level
+    in_its_profile = record {
+      line_is = sym (ap (λ (x : QueryName). x.context.line) named.name_is);
+      judged_is = subst (λ (x : Pkg). judged x q.case.parent.profile ≡ Some q.case.parent.level) (sym pkg_is) named.level;
+      level_is = sym (ap (λ (x : QueryName). x.context.level) named.name_is);
+      asked = subst (λ (k : Class). is_asked o (case_at repo.pkgs m q.case.parent.profile q.case.parent.level) k ≡ true) (sym (ap (λ (x : QueryName). x.class) named.name_is))
+          (subst (λ (c : Case). is_asked o c q.class ≡ true) (named.case ∙ ap (λ (x : Member). case_at repo.pkgs x q.case.parent.profile q.case.parent.level) member_is) named.asked);
+    }
+
+  pub passed : (profiles : List Profile) (profile : Profile) (i : ℕ) → profiles ≡ repo.profiles → i < length profiles → profile ≡ get_or profiles i profile
+      → ((level : Level) → IsNamedIn o repo.pkgs name m profile level → ⊥) → ((q : Query) (named : IsNamed o repo name q) → i ≤ named.line) → (q : Query) (named : IsNamed o repo name q) → i + 1 ≤ named.line
+  passed profiles profile i same lt here not_here before q named = by (eq-or-lt_of_le (before q named))
+    where
+      there : slice_get repo.profiles i ≡ Some profile
+      there = subst (λ l. slice_get l i ≡ Some profile) same (slice_get-get_or profiles i profile lt ∙ ap Some (sym here))
+
+      by : (i ≡ named.line) ⊎ (i < named.line) → i + 1 ≤ named.line
+      by (inl e) =
+          let same_profile : profile ≡ q.case.parent.profile = same_some profile q.case.parent.profile (sym there ∙ (ap (slice_get repo.profiles) e ∙ named.profile)) in
+          absurd (not_here q.case.parent.level (subst (λ (x : Profile). IsNamedIn o repo.pkgs name m x q.case.parent.level) (sym same_profile) (in_its_profile q named)))
+      by (inr l) = omega (arith, l)
+
+pub never_past : (o : Options) (repo : Repo) (name : QueryName) (profiles : List Profile) (i : ℕ) → HasNamed o repo name → profiles ≡ repo.profiles → length profiles ≤ i
+    → ((q : Query) (named : IsNamed o repo name q) → i ≤ named.line) → ⊥
+never_past o repo name profiles i there same end before =
+    let within : there.1.line < length profiles = subst (λ l. there.1.line < length l) (sym same) (slice_get_within repo.profiles there.1.line there.0.case.parent.profile there.1.profile) in
+    let least : i ≤ there.1.line = before there.0 there.1 in
+    absurd (omega (arith, within, least, end))
 
 -- Each query is that of its name.
 all_both : {A : Type 0} (P : A → Type 0) (xs ys : List A) → AllByRecursion P xs → AllByRecursion P ys → AllByRecursion P (xs ++ ys)
@@ -116,16 +177,14 @@ module _ (o : Options) (r : Repo) where
 pub all_named : (o : Options) (r : Repo) → AllByRecursion (λ q. IsNamed o r (query_name q) q) (queries o r)
 all_named o r = of_members o r [] r.pkgs [] r.bodies refl refl refl
 
+pub names_named : (o : Options) (r : Repo) → AllByRecursion (HasNamed o r) (map query_name (queries o r))
+names_named o r = of_names (queries o r) (all_named o r)
+  where
+    of_names : (qs : List Query) → AllByRecursion (λ q. IsNamed o r (query_name q) q) qs → AllByRecursion (HasNamed o r) (map query_name qs)
+    of_names [] all = tt
+    of_names (q ∷ qs) all = ((q, all.0), of_names qs all.1)
+
 -- No other is.
-same_some : {X : Type 0} (a b : X) → Some a ≡ Some b → a ≡ b
-same_some a b e = ap (λ o. unwrap_or o a) e
-
-abbrev member_with : ℕ → Pkg → Body → Member
-member_with n p b = record { number = n; pkg = p; body = b }
-
-same_member : (m n : Member) → m.number ≡ n.number → m.pkg ≡ n.pkg → m.body ≡ n.body → m ≡ n
-same_member m n a b c = ap (λ x. member_with x m.pkg m.body) a ∙ (ap (λ x. member_with n.number x m.body) b ∙ ap (λ x. member_with n.number n.pkg x) c)
-
 module _ (o : Options) (r : Repo) (own : HaveOwnLines r.profiles) (name : QueryName) (p q : Query) (a : IsNamed o r name p) (b : IsNamed o r name q) where
   abbrev name_same : query_name p ≡ query_name q
   name_same = sym a.name_is ∙ b.name_is

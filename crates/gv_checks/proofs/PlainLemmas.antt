@@ -1,17 +1,13 @@
 -- The selected reports that need no query, as they are found.
-use Rattle.std.proofs.Common.{◌≡◌, ℕ, ◌+◌, Bool, true, false, ◌&&◌, ◌||◌, if◌then◌else◌, cond, List, [], ◌∷◌, ◌++◌, length, map, filter, refl, sym, ap, ◌∙◌, Option, Some, None, append_assoc, length-append, arith}
-use Rattle.std.specs.Prelude.{flat_map, slice_get}
+use Rattle.std.proofs.Common.{◌≡◌, ℕ, Bool, true, false, ◌&&◌, ◌||◌, if◌then◌else◌, List, [], ◌∷◌, ◌++◌, map, filter, refl, sym, ap, ◌∙◌, Option, Some, None}
+use Rattle.std.specs.Prelude.{flat_map}
 use Rattle.std.specs.List.{list_any}
-use Rattle.std.specs.Option.{option_map_or}
 use Rattle.std.specs.Str.{bytes_eq}
 use Rattle.std.proofs.lemmas.Bool.{false≢true}
 use Rattle.std.proofs.lemmas.List.Elements.{filter-append}
 use Rattle.gv_base.specs.Order.{has_text}
-use Rattle.gv_atom.specs.declared.atom.Atom.{Atom}
 use Rattle.gv_entry.specs.declared.entry.Body.{Body}
 use Rattle.gv_facts.specs.Effective.{expand_flags, is_effective, unprefixed_flags}
-use Rattle.gv_facts.specs.Places.{is_pkg_of, places_from, places_of}
-use Rattle.gv_facts.specs.Visible.{matches_pkg}
 use Rattle.gv_facts.specs.declared.kinds.Class.{Class}
 use Rattle.gv_facts.specs.declared.pkg.Pkg.{Pkg}
 use Rattle.gv_facts.specs.declared.profile.Profile.{Profile}
@@ -21,71 +17,12 @@ use Rattle.gv_report.specs.declared.keyword.Keyword.TheVariants as keywords
 use Rattle.gv_report.specs.declared.options.Options.{Options}
 use Rattle.gv_report.specs.declared.report.Report.{Report}
 use Rattle.gv_checks.specs.Cases.{Case, Member, cases_of, members}
-use Rattle.gv_checks.specs.Plain.{is_other, matches_at, other_flags, told, told_case, told_member, told_nonexistent, told_unstated, unstated_among}
+use Rattle.gv_checks.specs.Lists.{filter_flat, flat_same, one_kind}
+use Rattle.gv_checks.specs.Plain.{is_other, other_flags, told, told_case, told_member, told_nonexistent, told_unstated, unstated_among}
 use Rattle.gv_checks.specs.Queries.{is_told}
 use Rattle.gv_checks.specs.RepoReports.{case_plain, is_unstated, live_in, member_plain, mentioned_in, nonexistent, nonexistent_in, plain_reports, readable_classes, unstated, unstated_in}
 use Rattle.gv_load.specs.declared.loading.Repo.{Repo}
 use Rattle.gv_checks.specs.declared.unstated.OtherFlags.{OtherFlags}
-
--- What stands at the places of the items that pass a test.
-module _ {X : Type 0} (test : X → Bool) where
-  at_length : (front : List X) (x : X) (xs : List X) → slice_get (front ++ x ∷ xs) (length front) ≡ Some x
-  at_length [] x xs = refl
-  at_length (y ∷ front) x xs = at_length front x xs
-
-  pub items_from : (front xs : List X) → map (slice_get (front ++ xs)) (places_from (length front) test xs) ≡ map Some (filter test xs)
-  items_from front [] = refl
-  items_from front (x ∷ xs) = by (test x) (at_length front x xs) (shifted (items_from (front ++ x ∷ []) xs))
-    where
-      shifted : map (slice_get ((front ++ x ∷ []) ++ xs)) (places_from (length (front ++ x ∷ [])) test xs) ≡ map Some (filter test xs)
-          → map (slice_get (front ++ x ∷ xs)) (places_from (length front + 1) test xs) ≡ map Some (filter test xs)
-      shifted h =
-          let whole : (front ++ x ∷ []) ++ xs ≡ front ++ x ∷ xs = append_assoc front (x ∷ []) xs in
-          let one_more : length (front ++ x ∷ []) ≡ length front + 1 = omega (arith, length-append front (x ∷ [])) in
-          rw (whole, one_more) at h
-
-      by : (b : Bool) → slice_get (front ++ x ∷ xs) (length front) ≡ Some x
-          → map (slice_get (front ++ x ∷ xs)) (places_from (length front + 1) test xs) ≡ map Some (filter test xs)
-          → map (slice_get (front ++ x ∷ xs)) (if b then length front ∷ places_from (length front + 1) test xs else places_from (length front + 1) test xs)
-          ≡ map Some (cond b (x ∷ filter test xs) (filter test xs))
-      by true here h = rw (here, h) refl
-      by false here h = h
-
--- Atoms: what matches has the category and name.
-pub front_two : (a b c : Bool) → (a && (b && c)) ≡ true → (a && b) ≡ true
-front_two true true c h = refl
-front_two true false c h = h
-front_two false b c h = h
-
-pub any_map : {A B : Type 0} (test : B → Bool) (f : A → B) (xs : List A) → list_any test (map f xs) ≡ list_any (λ x. test (f x)) xs
-any_map test f [] = refl
-any_map test f (x ∷ xs) = ap (λ r. test (f x) || r) (any_map test f xs)
-
-pub any_among : {A : Type 0} (test other : A → Bool) → ((x : A) → test x ≡ true → other x ≡ true) → (xs : List A) → list_any test (filter other xs) ≡ list_any test xs
-any_among test other only [] = refl
-any_among test other only (x ∷ xs) = by (other x) refl (test x) refl (any_among test other only xs)
-  where
-    by : (b : Bool) → other x ≡ b → (c : Bool) → test x ≡ c → list_any test (filter other xs) ≡ list_any test xs → list_any test (filter other (x ∷ xs)) ≡ list_any test (x ∷ xs)
-    by true e c f rest = rw e (ap (λ r. test x || r) rest)
-    by false e true f rest = absurd (false≢true (sym e ∙ only x f))
-    by false e false f rest = rw (e, f) rest
-
-at_places : (atom : Atom) (pkgs : List Pkg) (places : List ℕ) → map (slice_get pkgs) places ≡ map Some (filter (is_pkg_of atom.category atom.name) pkgs)
-    → list_any (matches_at atom pkgs) places ≡ list_any (matches_pkg atom) pkgs
-at_places atom pkgs places items =
-    sym (any_map found (slice_get pkgs) places)
-    ∙ (ap (list_any found) items
-    ∙ (any_map found Some (filter (is_pkg_of atom.category atom.name) pkgs)
-    ∙ any_among (matches_pkg atom) (is_pkg_of atom.category atom.name) of_name pkgs))
-  where
-    found : Option Pkg → Bool
-    found o = option_map_or (matches_pkg atom) o false
-
-    of_name : (p : Pkg) → matches_pkg atom p ≡ true → is_pkg_of atom.category atom.name p ≡ true
-    of_name p = front_two (bytes_eq atom.category p.category) (bytes_eq atom.name p.name) _
-
-pub at_named : (atom : Atom) (pkgs : List Pkg) → list_any (matches_at atom pkgs) (places_of (is_pkg_of atom.category atom.name) pkgs) ≡ list_any (matches_pkg atom) pkgs
-at_named atom pkgs = at_places atom pkgs (places_of (is_pkg_of atom.category atom.name) pkgs) (items_from (is_pkg_of atom.category atom.name) [] pkgs)
 
 -- Flags of IUSE are effective.
 any_front : {A : Type 0} (test : A → Bool) (xs ys : List A) → list_any test xs ≡ true → list_any test (xs ++ ys) ≡ true
@@ -119,26 +56,12 @@ pub unstated_by_others : (c : Case) (others : List OtherFlags) → others ≡ ma
 unstated_by_others c others e = ap (flat_map (unstated_among c)) e ∙ among_others c (readable_classes c.parent.pkg c.member.body)
 
 -- Selected reports: those of one keyword in one context are selected all or not at all.
-pub filter_flat : {A B : Type 0} (test : B → Bool) (f : A → List B) (xs : List A) → filter test (flat_map f xs) ≡ flat_map (λ x. filter test (f x)) xs
-filter_flat test f [] = refl
-filter_flat test f (x ∷ xs) = filter-append test (f x) (flat_map f xs) ∙ ap (λ rs. filter test (f x) ++ rs) (filter_flat test f xs)
-
-pub flat_same : {A B : Type 0} (f g : A → List B) → ((x : A) → f x ≡ g x) → (xs : List A) → flat_map f xs ≡ flat_map g xs
-flat_same f g e [] = refl
-flat_same f g e (x ∷ xs) = ap (λ rs. rs ++ flat_map f xs) (e x) ∙ ap (λ rs. g x ++ rs) (flat_same f g e xs)
-
 abbrev nothing : {A B : Type 0} → A → List B
 nothing x = []
 
 flat_nothing : {A B : Type 0} (xs : List A) → flat_map (nothing {A = A} {B = B}) xs ≡ []
 flat_nothing [] = refl
 flat_nothing (x ∷ xs) = flat_nothing xs
-
-pub one_kind : {A : Type 0} (test : Report → Bool) (f : A → Report) (b : Bool) → ((x : A) → test (f x) ≡ b) → (xs : List A) → filter test (map f xs) ≡ (if b then map f xs else [])
-one_kind test f true e [] = refl
-one_kind test f false e [] = refl
-one_kind test f true e (x ∷ xs) = rw (e x) (ap (λ rs. f x ∷ rs) (one_kind test f true e xs))
-one_kind test f false e (x ∷ xs) = rw (e x) (one_kind test f false e xs)
 
 all_kinds : {A : Type 0} (test : Report → Bool) (f : A → List Report) (b : Bool) → ((x : A) → filter test (f x) ≡ (if b then f x else [])) → (xs : List A) → filter test (flat_map f xs) ≡ (if b then flat_map f xs else [])
 all_kinds test f true e xs = filter_flat test f xs ∙ flat_same (λ x. filter test (f x)) f e xs
@@ -176,7 +99,7 @@ module _ (o : Options) where
       filter-append (selected o) (flat_map (unstated_in c) (readable_classes c.member.pkg c.member.body)) (live_in c)
       ∙ (ap (λ rs. rs ++ filter (selected o) (live_in c)) (unstated_told c (readable_classes c.member.pkg c.member.body)) ∙ ap (λ rs. told_unstated o c ++ rs) (live_told c))
 
-  member_told : (repo : Repo) (m : Member) → filter (selected o) (member_plain repo m) ≡ told_member o repo m
+  pub member_told : (repo : Repo) (m : Member) → filter (selected o) (member_plain repo m) ≡ told_member o repo m
   member_told repo m =
       filter-append (selected o) (flat_map (nonexistent_in repo.pkgs m.pkg m.body) (readable_classes m.pkg m.body)) (flat_map case_plain (cases_of repo m))
       ∙ (ap (λ rs. rs ++ filter (selected o) (flat_map case_plain (cases_of repo m))) (nonexistent_told repo.pkgs m.pkg m.body (readable_classes m.pkg m.body))

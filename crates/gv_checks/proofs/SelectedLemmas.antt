@@ -82,7 +82,7 @@ module _ (o : Options) (c : Case) where
       by true has rest = found has (query_report (query_of c k)) refl (is_selected o c k) refl rest
       by false has rest = rw has rest
 
-of_cases : (o : Options) (cs : List Case) → filter (selected o) (filter_map query_report (flat_map case_queries_all cs)) ≡ filter_map query_report (flat_map (case_queries o) cs)
+pub of_cases : (o : Options) (cs : List Case) → filter (selected o) (filter_map query_report (flat_map case_queries_all cs)) ≡ filter_map query_report (flat_map (case_queries o) cs)
 of_cases o [] = refl
 of_cases o (c ∷ cs) =
     ap (filter (selected o)) (filter_map-append query_report (case_queries_all c) (flat_map case_queries_all cs))

@@ -16,14 +16,14 @@ use Rattle.gv_logic.specs.Bytes.{circuit_bytes}
 use Rattle.gv_lower.specs.Keys.{HaveSameAllowed, HaveSameFailing, query_key, required_key}
 use Rattle.gv_lower.specs.Lowering.{IsQuery}
 use Rattle.gv_lower.specs.declared.query.Query as lowered
-use Rattle.gv_checks.specs.Asked.{asked_flags, asked_gates, asked_items, asked_weight}
+use Rattle.gv_checks.specs.Asked.{asked_flags, asked_gates, asked_items, asked_preferred, asked_weight}
 use Rattle.gv_checks.specs.Alike.{first_at}
 use Rattle.gv_checks.specs.Cases.{Case}
 use Rattle.gv_checks.specs.Context.{case_of}
 use Rattle.gv_checks.specs.Keys.{ArePartsOf}
 use Rattle.gv_checks.specs.Limits.{IsWithin}
 use Rattle.gv_checks.specs.Progress.{Grows}
-use Rattle.gv_checks.specs.Queries.{Query, class_of, flags_of, gates_bytes, gates_of, items_of, query_of, required_of, weight_of}
+use Rattle.gv_checks.specs.Queries.{Query, class_of, flags_of, gates_bytes, gates_of, items_of, preferred_of, query_of, required_of, weight_of}
 use Rattle.gv_checks.specs.Shared.{AreHere, AreKept, AreNoted, ArePlaced, AreReady, AreShared, IsAnsweredAt, IsKeptAs, IsLoweredAs, IsNoted, IsShared, IsSharedAt, Keeps, asked_key, key_of}
 use Rattle.gv_checks.specs.declared.context.JudgedPkg.{JudgedPkg}
 use Rattle.gv_checks.specs.declared.keys.PkgSites.{PkgSites}
@@ -37,33 +37,34 @@ on_ok (Err x) f h = tt
 
 -- What equal keys tell.
 pub record KeyLaws : Type 0 where
-  pub allowed : (c d : Parent) (required : List Req) → c.pkg.eapi ≡ d.pkg.eapi → required_key c required ≡ required_key d required → HaveSameAllowed c d required
-  pub failing : (c d : Parent) (required : List Req) (class : List Dep) → c.pkg.eapi ≡ d.pkg.eapi → query_key c required class ≡ query_key d required class → HaveSameFailing c d required class
+  pub allowed : (c d : Parent) (required : List Req) → c.pkg.eapi ≡ d.pkg.eapi → c.pkg.iuse_plus ≡ d.pkg.iuse_plus → required_key c required ≡ required_key d required → HaveSameAllowed c d required
+  pub failing : (c d : Parent) (required : List Req) (class : List Dep) → c.pkg.eapi ≡ d.pkg.eapi → c.pkg.iuse_plus ≡ d.pkg.iuse_plus → query_key c required class ≡ query_key d required class → HaveSameFailing c d required class
 
 record HaveSame (c d : Parent) (required : List Req) (class : Option (List Dep)) : Type 0 where
   pub flags : asked_flags c required class ≡ asked_flags d required class
   pub gates : asked_gates c required class ≡ asked_gates d required class
   pub items : asked_items c required class ≡ asked_items d required class
+  pub values : asked_preferred c required class ≡ asked_preferred d required class
   pub weight : asked_weight c required class ≡ asked_weight d required class
 
-have_same : KeyLaws → (c d : Parent) (required : List Req) (class : Option (List Dep)) → c.pkg.eapi ≡ d.pkg.eapi → asked_key c required class ≡ asked_key d required class → HaveSame c d required class
-have_same laws c d required None eapi e =
-    let same = laws.allowed c d required eapi e in
-    record { flags = same.flags; gates = same.gates; items = refl; weight = same.weight }
-have_same laws c d required (Some class) eapi e =
-    let same = laws.failing c d required class eapi e in
-    record { flags = same.flags; gates = same.gates; items = same.items; weight = same.weight }
+have_same : KeyLaws → (c d : Parent) (required : List Req) (class : Option (List Dep)) → c.pkg.eapi ≡ d.pkg.eapi → c.pkg.iuse_plus ≡ d.pkg.iuse_plus → asked_key c required class ≡ asked_key d required class → HaveSame c d required class
+have_same laws c d required None eapi plus e =
+    let same = laws.allowed c d required eapi plus e in
+    record { flags = same.flags; gates = same.gates; items = refl; values = same.values; weight = same.weight }
+have_same laws c d required (Some class) eapi plus e =
+    let same = laws.failing c d required class eapi plus e in
+    record { flags = same.flags; gates = same.gates; items = same.items; values = same.values; weight = same.weight }
 
 -- a kept query is that of a context with its key
 as_lowered : KeyLaws → (q : Query) (e : SharedQuery) → IsShared q.case.parent.pkg q.case.member.body e → class_in q.case.member.body e.class ≡ class_of q → e.key ≡ key_of q → IsLoweredAs q e
 as_lowered laws q e s is key = record {
   within = record { flags = subst (λ n. n ≤ 4096) (ap length flags) s.few; weight = subst (λ n. n ≤ 2000000) weight s.light };
-  query_is = record { gates = s.query_is.gates ∙ gates; flags = s.query_is.flags ∙ flags; items = s.query_is.items ∙ items };
+  query_is = record { gates = s.query_is.gates ∙ gates; flags = s.query_is.flags ∙ flags; items = s.query_is.items ∙ items; preferred = s.query_is.preferred ∙ values };
   bytes_are = s.bytes_are ∙ ap circuit_bytes gates;
 }
   where
     same : HaveSame s.parent q.case.parent (required_of q) (class_of q)
-    same = have_same laws s.parent q.case.parent (required_of q) (class_of q) (ap (λ p. p.eapi) s.pkg_is) (ap (asked_key s.parent (required_of q)) (sym is) ∙ (sym s.key_is ∙ key))
+    same = have_same laws s.parent q.case.parent (required_of q) (class_of q) (ap (λ p. p.eapi) s.pkg_is) (ap (λ p. p.iuse_plus) s.pkg_is) (ap (asked_key s.parent (required_of q)) (sym is) ∙ (sym s.key_is ∙ key))
 
     flags : asked_flags s.parent (required_of q) (class_in q.case.member.body e.class) ≡ flags_of q
     flags = ap (asked_flags s.parent (required_of q)) is ∙ same.flags
@@ -73,6 +74,9 @@ as_lowered laws q e s is key = record {
 
     items : asked_items s.parent (required_of q) (class_in q.case.member.body e.class) ≡ items_of q
     items = ap (asked_items s.parent (required_of q)) is ∙ same.items
+
+    values : asked_preferred s.parent (required_of q) (class_in q.case.member.body e.class) ≡ preferred_of q
+    values = ap (asked_preferred s.parent (required_of q)) is ∙ same.values
 
     weight : asked_weight s.parent (required_of q) (class_in q.case.member.body e.class) ≡ weight_of q
     weight = ap (asked_weight s.parent (required_of q)) is ∙ same.weight
@@ -109,7 +113,7 @@ as_class c a b e same lowered = record {
     flags = subst (λ d. length (asked_flags c.parent required d) ≤ 4096) same lowered.within.flags;
     weight = subst (λ d. asked_weight c.parent required d ≤ 2000000) same lowered.within.weight;
   };
-  query_is = subst (λ d. IsQuery (asked_gates c.parent required d) (asked_flags c.parent required d) (asked_items c.parent required d) e.query) same lowered.query_is;
+  query_is = subst (λ d. IsQuery (asked_gates c.parent required d) (asked_flags c.parent required d) (asked_items c.parent required d) (asked_preferred c.parent required d) e.query) same lowered.query_is;
   bytes_are = lowered.bytes_are ∙ ap (λ d. circuit_bytes (asked_gates c.parent required d)) same;
 }
   where
@@ -138,7 +142,7 @@ long_last (y ∷ ys) x = let h = long_last ys x in omega (arith, h)
 
 -- a query that was lowered for a context is one that may be kept
 module _ (q : Query) (first : Class) (query : lowered.Query) (old new : List SharedQuery) (key : List ℕ) (n : ℕ) (same : class_in q.case.member.body first ≡ class_of q) (is : key ≡ key_of q) (within : IsWithin q)
-    (right : IsQuery (gates_of q) (flags_of q) (items_of q) query) (keeps : Keeps first key query old new n) where
+    (right : IsQuery (gates_of q) (flags_of q) (items_of q) (preferred_of q) query) (keeps : Keeps first key query old new n) where
   entry_shared : IsShared q.case.parent.pkg q.case.member.body keeps.entry
   entry_shared = record {
     parent = q.case.parent;
@@ -146,8 +150,8 @@ module _ (q : Query) (first : Class) (query : lowered.Query) (old new : List Sha
     key_is = keeps.key_is ∙ (is ∙ ap (asked_key q.case.parent (required_of q)) class);
     few = subst (λ d. length (asked_flags q.case.parent (required_of q) d) ≤ 4096) class within.flags;
     light = subst (λ d. asked_weight q.case.parent (required_of q) d ≤ 2000000) class within.weight;
-    query_is = subst (λ d. IsQuery (asked_gates q.case.parent (required_of q) d) (asked_flags q.case.parent (required_of q) d) (asked_items q.case.parent (required_of q) d) keeps.entry.query) class
-        (subst (λ l. IsQuery (gates_of q) (flags_of q) (items_of q) l) (sym keeps.query_is) right);
+    query_is = subst (λ d. IsQuery (asked_gates q.case.parent (required_of q) d) (asked_flags q.case.parent (required_of q) d) (asked_items q.case.parent (required_of q) d) (asked_preferred q.case.parent (required_of q) d) keeps.entry.query) class
+        (subst (λ l. IsQuery (gates_of q) (flags_of q) (items_of q) (preferred_of q) l) (sym keeps.query_is) right);
     bytes_are = keeps.bytes_are ∙ (ap circuit_bytes right.gates ∙ ap (λ d. circuit_bytes (asked_gates q.case.parent (required_of q) d)) class);
   }
     where
@@ -170,7 +174,7 @@ module _ (q : Query) (first : Class) (query : lowered.Query) (old new : List Sha
       as_it : {e : SharedQuery} → e ≡ keeps.entry → IsLoweredAs q e
       as_it here = subst (IsLoweredAs q) (sym here) (record {
         within = within;
-        query_is = subst (λ l. IsQuery (gates_of q) (flags_of q) (items_of q) l) (sym keeps.query_is) right;
+        query_is = subst (λ l. IsQuery (gates_of q) (flags_of q) (items_of q) (preferred_of q) l) (sym keeps.query_is) right;
         bytes_are = keeps.bytes_are ∙ ap circuit_bytes right.gates;
       })
 

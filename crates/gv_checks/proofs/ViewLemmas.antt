@@ -13,10 +13,11 @@ use Rattle.gv_report.specs.declared.report.Report.{Report}
 use Rattle.gv_usestate.specs.Kinds.{IsOneOf}
 use Rattle.gv_visible.specs.Candidates.{VisiblePkgs}
 use Rattle.gv_checks.specs.Cases.{Case, Member, case_at, case_in}
+use Rattle.gv_checks.specs.Lists.{drop_here}
 use Rattle.gv_checks.specs.Plain.{told_case, told_in}
-use Rattle.gv_checks.specs.Walks.{seen}
+use Rattle.gv_checks.specs.Seen.{seen}
 use Rattle.gv_checks.proofs.SharedLemmas.{on_ok}
-use Rattle.gv_checks.proofs.WalkLemmas.{IsSeenAt, all_seen, drop_here, seen_at}
+use Rattle.gv_checks.proofs.WalkLemmas.{IsSeenAt, all_seen, seen_at}
 use Rattle.gv_load.specs.declared.loading.Repo.{Repo}
 
 pub as_seen : (pkgs : List Pkg) (profile : Profile) (x : VisiblePkgs) → x.pkgs ≡ pkgs → profile ≡ x.profile → x ≡ seen pkgs profile

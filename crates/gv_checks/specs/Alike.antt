@@ -1,4 +1,6 @@
 -- For the contracts of private functions: classes of a package that have one and the same expression.
+-- DEPEND and RDEPEND are often such, and so are all empty ones. They ask one and the same query in a context, since a
+-- query rests on the class's expression and not on its name. They are found once for the package.
 use Rattle.std.specs.Prelude.{◌≡◌}
 use Rattle.gv_entry.specs.Queries.{class_in}
 use Rattle.gv_entry.specs.declared.entry.Body.{Body}

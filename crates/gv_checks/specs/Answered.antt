@@ -4,7 +4,7 @@ use Rattle.std.specs.List.{AllByRecursion}
 use Rattle.gv_base.specs.Counts.{Counts}
 use Rattle.gv_base.specs.Steps.{after}
 use Rattle.gv_base.specs.declared.steps.Kind.TheVariants.{Lower, Solve}
-use Rattle.gv_cert.specs.Claim.{IsAnswer, claim_bytes}
+use Rattle.gv_cert.specs.Claim.{IsAnswerTo, answer_bytes}
 use Rattle.gv_cert.specs.Backing.{NoneBacked}
 use Rattle.gv_cert.specs.Known.{KnownRecord}
 use Rattle.gv_cert.specs.declared.claim.Claim.{Claim}
@@ -15,6 +15,7 @@ use Rattle.gv_lower.specs.declared.query.LowerFault.TheVariants.{Flags, Weight}
 use Rattle.gv_lower.specs.Weigh.{capped}
 use Rattle.gv_query.specs.Asking.{IsAnswered}
 use Rattle.gv_report.specs.declared.options.Options.{Options}
+use Rattle.gv_report.specs.declared.report.Report.{Report}
 use Rattle.gv_checks.specs.Certs.{AreCerts, Cert, cert_record, counts_after}
 use Rattle.gv_checks.specs.Limits.{Cause, IsWithin, Refuses}
 use Rattle.gv_checks.specs.Queries.{Query, flags_of, gates_bytes, gates_of, least_of, queries, weight_of}
@@ -31,8 +32,8 @@ pub record IsFound (budget : ℕ) (given : List KnownRecord) (q : Query) (f : Fo
   pub within : IsWithin q
   pub query_is : f.query ≡ gates_bytes q
   pub claim : Claim
-  pub formed : IsAnswer (gates_of q).inputs claim
-  pub answer_is : f.answer ≡ claim_bytes claim
+  pub formed : IsAnswerTo (gates_of q) claim
+  pub answer_is : f.answer ≡ answer_bytes (gates_of q) claim
   pub answered : IsAnswered (gates_of q) budget given claim f.reused
   pub witness_is : f.witness ≡ option_map (witness_of q) (least_of q)
   pub report_is : f.report ≡ query_report q
@@ -63,19 +64,23 @@ CountsKnown (Ok known) before now = now ≡ after Lower before
 CountsKnown (Err lowering.NoMemory) before now = (now ≡ before) ⊎ (now ≡ after Lower before)
 CountsKnown (Err fault) before now = now ≡ after Lower before
 
--- the reports of a scan; one record for each distinct query; each query within the limits, and its gates a circuit; and what was
+-- these reports; one record for each distinct one of these queries; each of them within the limits, and its gates a circuit; and what was
 -- counted: at most one lowering a query
-pub record IsJudged (options : Options) (given : List KnownRecord) (repo : Repo) (before now : Counts) (j : Judged) : Type 0 where
-  pub reports_are : j.reports ≡ scan_reports options repo
+pub record AreJudged (budget : ℕ) (given : List KnownRecord) (asked : List Query) (told : List Report) (before now : Counts) (j : Judged) : Type 0 where
+  pub reports_are : j.reports ≡ told
   pub certs : List Cert
-  pub are : AreCerts options.budget given (map gates_of (queries options repo)) certs
+  pub are : AreCerts budget given (map gates_of asked) certs
   pub records_are : j.certs ≡ map cert_record certs
-  pub queries_are : j.queries ≡ length (queries options repo)
-  pub within : AllByRecursion IsWithin (queries options repo)
-  pub formed : AllByRecursion (λ q. IsCircuit (gates_of q)) (queries options repo)
+  pub queries_are : j.queries ≡ length asked
+  pub within : AllByRecursion IsWithin asked
+  pub formed : AllByRecursion (λ q. IsCircuit (gates_of q)) asked
   pub lowered : ℕ
-  pub few : lowered ≤ length (queries options repo)
+  pub few : lowered ≤ length asked
   pub counts_are : now ≡ counts_after before lowered certs
+
+-- those of a scan
+abbrev pub IsJudged : Options → (given : List KnownRecord) → Repo → (before now : Counts) → Judged → Type 0
+IsJudged options given repo before now j = AreJudged options.budget given (queries options repo) (scan_reports options repo) before now j
 
 abbrev pub JudgesAll : Options → (given : List KnownRecord) → Repo → (before now : Counts) → Result Judged JudgeFault → Type 0
 JudgesAll options given repo before now (Ok j) = IsJudged options given repo before now j

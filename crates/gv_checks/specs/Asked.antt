@@ -2,6 +2,7 @@
 use Rattle.std.specs.Prelude.{ℕ, Bool, List, [], length, Option, None, Some}
 use Rattle.gv_expr.specs.Dep.{Dep}
 use Rattle.gv_expr.specs.Required.{Req}
+use Rattle.gv_facts.specs.Preferred.{preferred}
 use Rattle.gv_entry.specs.Allowed.{Parent, is_allowed, is_failing}
 use Rattle.gv_entry.specs.Least.{least}
 use Rattle.gv_entry.specs.LeastAssignments.{IsLeastAllowed, IsLeastFailing, NoneAllowed, NoneFailing}
@@ -17,7 +18,11 @@ abbrev pub asked_flags : Parent → List Req → Option (List Dep) → List (Lis
 asked_flags c required None = required_flags c required
 asked_flags c required (Some class) = class_flags c required class
 
--- the test of bits of these flags: without a class those that are allowed, else those that are failing for it
+-- of each whether the package prefers it on
+abbrev pub asked_preferred : Parent → List Req → Option (List Dep) → List Bool
+asked_preferred c required class = preferred c.pkg (asked_flags c required class)
+
+-- the test of bits of these flags, which say that a flag hasn't its preferred value: without a class those that are allowed, else those that are failing for it
 abbrev pub asks : Parent → List Req → Option (List Dep) → List Bool → Bool
 asks c required None bits = is_allowed c required (required_flags c required) bits
 asks c required (Some class) bits = is_failing c required class (class_flags c required class) bits

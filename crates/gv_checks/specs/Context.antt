@@ -6,6 +6,10 @@ use Rattle.gv_visible.specs.StoredTest.{AnswersVisible}
 use Rattle.gv_visible.specs.Candidates.{Candidates, level_of, pkgs_of, profile_of}
 use Rattle.gv_checks.specs.Cases.{Case, Member, case_at}
 use Rattle.gv_checks.specs.declared.context.JudgedPkg.{JudgedPkg}
+use Rattle.gv_checks.specs.declared.context.ListedPkg.{ListedPkg}
+
+abbrev pub listed : ListedPkg → Member
+listed one = record { number = one.number; pkg = one.pkg.now; body = one.body.now }
 
 abbrev pub member_of : JudgedPkg → Member
 member_of j = record { number = j.number; pkg = j.pkg.now; body = j.body.now }

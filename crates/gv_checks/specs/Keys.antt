@@ -1,4 +1,10 @@
 -- For the contracts of private functions: what the keys of a package's queries are made of.
+-- `gv_lower` gives each query a key, made of the states of the mentioned flags and of the packages that its atoms find,
+-- and `key_law` says that contexts of a package with equal keys have one and the same query. What a class asks about
+-- (the flags that it mentions, and of each atom the packages that it matches, visible or not) is found once for the
+-- package (`ClassSites`), and so is what is known of these flags in all profiles (`RuledFlags`, made once of the
+-- profiles, and `kind_law`). So a context's key costs the states of the other flags and a look at what the profile
+-- shows. The key of REQUIRED_USE is made once for all queries of a context.
 use Rattle.std.specs.Prelude.{◌≡◌, ℕ, List, [], Option, None, option_map, unwrap_or}
 use Rattle.gv_entry.specs.declared.entry.Body.{Body}
 use Rattle.gv_expr.specs.Dep.{Dep}

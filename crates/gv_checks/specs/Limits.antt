@@ -1,10 +1,11 @@
 -- The limits of a query, and why judging is refused.
-use Rattle.std.specs.Prelude.{◌≡◌, ◌⊎◌, ℕ, ◌<◌, ◌≤◌, List, ◌∷◌, ◌++◌, length}
+use Rattle.std.specs.Prelude.{◌≡◌, ◌⊎◌, ℕ, ◌<◌, ◌≤◌, List, ◌∷◌, ◌++◌, length, map}
 use Rattle.std.specs.List.{AllByRecursion}
 use Rattle.gv_cert.specs.Known.{KnownRecord}
 use Rattle.gv_facts.specs.declared.pkg.Pkg.{Pkg}
 use Rattle.gv_query.specs.Asking.{IsSpent}
 use Rattle.gv_report.specs.Line.{package_text}
+use Rattle.gv_checks.specs.Certs.{AreCerts, Cert}
 use Rattle.gv_checks.specs.Queries.{Query, flags_of, gates_of, query_name, weight_of}
 use Rattle.gv_lower.specs.declared.query.LowerFault.{LowerFault}
 use Rattle.gv_lower.specs.declared.query.LowerFault.TheVariants as lowering
@@ -53,7 +54,22 @@ pub record IsRefused (budget : ℕ) (given : List KnownRecord) (queries : List Q
   pub within : AllByRecursion IsWithin before
   pub cause : Cause budget given query fault
 
--- the first that is refused; want of memory names none
+-- one that is refused; want of memory names none
 abbrev pub Refuses : (budget : ℕ) → (given : List KnownRecord) → List Query → JudgeFault → Type 0
 Refuses budget given queries NoMemory = Unit {0}
 Refuses budget given queries fault = IsRefused budget given queries fault
+
+-- it is the first: those before it are within the limits, and each of them has its certificate
+pub record IsFirstRefused (budget : ℕ) (given : List KnownRecord) (queries : List Query) (fault : JudgeFault) : Type 0 where
+  pub before : List Query
+  pub query : Query
+  pub behind : List Query
+  pub queries_are : queries ≡ before ++ query ∷ behind
+  pub within : AllByRecursion IsWithin before
+  pub certs : List Cert
+  pub are : AreCerts budget given (map gates_of before) certs
+  pub cause : Cause budget given query fault
+
+abbrev pub RefusesFirst : (budget : ℕ) → (given : List KnownRecord) → List Query → JudgeFault → Type 0
+RefusesFirst budget given queries NoMemory = Unit {0}
+RefusesFirst budget given queries fault = IsFirstRefused budget given queries fault

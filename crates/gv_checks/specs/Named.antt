@@ -2,12 +2,14 @@
 use Rattle.std.specs.Prelude.{◌≡◌, ℕ, List, true, Some, slice_get, Option, Result, Ok, Err}
 use Rattle.gv_cert.specs.Known.{KnownRecord}
 use Rattle.gv_facts.specs.Visible.{judged}
+use Rattle.gv_facts.specs.declared.kinds.Level.{Level}
+use Rattle.gv_facts.specs.declared.pkg.Pkg.{Pkg}
 use Rattle.gv_facts.specs.declared.profile.Profile.{Profile}
 use Rattle.gv_lower.specs.declared.query.LowerFault.{LowerFault}
 use Rattle.gv_lower.specs.declared.query.LowerFault.TheVariants as lowering
 use Rattle.gv_report.specs.declared.options.Options.{Options}
 use Rattle.gv_checks.specs.Answered.{IsFound, Knows}
-use Rattle.gv_checks.specs.Cases.{case_at}
+use Rattle.gv_checks.specs.Cases.{Member, case_at}
 use Rattle.gv_checks.specs.Limits.{Cause}
 use Rattle.gv_checks.specs.Queries.{Query, is_asked, query_name}
 use Rattle.gv_checks.specs.declared.fault.JudgeFault.{JudgeFault}
@@ -27,9 +29,16 @@ pub record IsNamed (options : Options) (repo : Repo) (name : QueryName) (q : Que
   pub case : q.case ≡ case_at repo.pkgs q.case.member q.case.parent.profile q.case.parent.level
   pub asked : is_asked options q.case q.class ≡ true
 
--- profiles with one line are one profile
-abbrev pub HaveOwnLines : List Profile → Type 0
-HaveOwnLines profiles = (i j : ℕ) (one two : Profile) → slice_get profiles i ≡ Some one → slice_get profiles j ≡ Some two → one.line ≡ two.line → one ≡ two
+-- there is one
+abbrev pub HasNamed : Options → Repo → QueryName → Type 0
+HasNamed options repo name = (q : Query) × IsNamed options repo name q
+
+-- that of a package in a profile, which judges it at this level
+pub record IsNamedIn (options : Options) (among : List Pkg) (name : QueryName) (m : Member) (profile : Profile) (level : Level) : Type 0 where
+  pub line_is : profile.line ≡ name.context.line
+  pub judged_is : judged m.pkg profile ≡ Some level
+  pub level_is : level ≡ name.context.level
+  pub asked : is_asked options (case_at among m profile level) name.class ≡ true
 
 -- the answer to it
 pub record IsFoundNamed (options : Options) (given : List KnownRecord) (repo : Repo) (name : QueryName) (f : Found1) : Type 0 where

@@ -1,12 +1,9 @@
 -- For the contracts of private functions: the reports that need no query, as far as they are selected.
-use Rattle.std.specs.Prelude.{ℕ, Bool, false, not, if◌then◌else◌, List, [], ◌++◌, map, filter, flat_map, slice_get, Option, None, Some}
-use Rattle.std.specs.Option.{option_map_or}
+use Rattle.std.specs.Prelude.{ℕ, Bool, not, if◌then◌else◌, List, [], ◌++◌, map, filter, flat_map, Option, None, Some}
 use Rattle.gv_base.specs.Order.{has_text}
-use Rattle.gv_atom.specs.declared.atom.Atom.{Atom}
 use Rattle.gv_expr.specs.Dep.{Deps}
 use Rattle.gv_expr.specs.Mentions.{wanted_atoms}
 use Rattle.gv_entry.specs.declared.entry.Body.{Body}
-use Rattle.gv_facts.specs.Visible.{matches_pkg}
 use Rattle.gv_facts.specs.declared.kinds.Class.{Class}
 use Rattle.gv_facts.specs.declared.pkg.Pkg.{Pkg}
 use Rattle.gv_report.specs.Selecting.{selected}
@@ -19,10 +16,6 @@ use Rattle.gv_checks.specs.Queries.{is_told}
 use Rattle.gv_checks.specs.RepoReports.{is_nowhere, is_unstated, live_in, mentioned_in, nonexistent, nonexistent_in, readable_classes, unstated, unstated_in}
 use Rattle.gv_load.specs.declared.loading.Repo.{Repo}
 use Rattle.gv_checks.specs.declared.unstated.OtherFlags.{OtherFlags}
-
--- whether the package at a place matches the atom
-abbrev pub matches_at : Atom → List Pkg → ℕ → Bool
-matches_at atom pkgs place = option_map_or (matches_pkg atom) (slice_get pkgs place) false
 
 -- of the atoms of trees
 abbrev pub nowhere_in : List Pkg → Pkg → Class → Deps → List Report

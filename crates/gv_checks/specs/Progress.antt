@@ -1,16 +1,14 @@
 -- How far judging has come. With a budget of 0 nothing is solved.
-use Rattle.std.specs.Prelude.{◌≡◌, ℕ, true, ◌<◌, ◌≤◌, List, [], ◌∷◌, ◌++◌, length, map, filter_map, Some, slice_get, Result, Ok, Err, if◌then◌else◌}
+use Rattle.std.specs.Prelude.{◌≡◌, ℕ, true, ◌<◌, ◌≤◌, List, [], ◌∷◌, ◌++◌, length, map, filter_map, Some, slice_get, Result, Ok, Err}
 use Rattle.std.specs.List.{AllByRecursion}
 use Rattle.gv_base.specs.Counts.{Counts}
 use Rattle.gv_cert.specs.Known.{HasQuery, KnownRecord}
 use Rattle.gv_cert.specs.declared.claim.Claim.{Claim}
 use Rattle.gv_logic.specs.Bytes.{circuit_bytes}
 use Rattle.gv_logic.specs.Circuits.{Circuit, IsCircuit}
-use Rattle.gv_query.specs.Asking.{IsSpent}
+use Rattle.gv_query.specs.Answering.{SpentBy}
+use Rattle.gv_query.specs.declared.answering.AskFault.{AskFault}
 use Rattle.gv_query.specs.Truth.{IsSo}
-use Rattle.gv_query.specs.Asking.{MayCount}
-use Rattle.gv_base.specs.Steps.{after}
-use Rattle.gv_base.specs.declared.steps.Kind.TheVariants.{Solve}
 use Rattle.gv_report.specs.declared.report.Report.{Report}
 use Rattle.gv_checks.specs.Asked.{found_bits}
 use Rattle.gv_checks.specs.Certs.{AreCerts, Cert, HasBacked, cert_record, counts_after}
@@ -19,9 +17,6 @@ use Rattle.gv_checks.specs.Queries.{Query, gates_of}
 use Rattle.gv_checks.specs.RepoReports.{query_report}
 use Rattle.gv_checks.specs.declared.fault.JudgeFault.{JudgeFault}
 use Rattle.gv_checks.specs.declared.fault.JudgeFault.TheVariants.{NoMemory}
-use Rattle.gv_checks.specs.declared.used.Answer.{Answer}
-use Rattle.gv_checks.specs.declared.used.AskFault.{AskFault}
-use Rattle.gv_checks.specs.declared.used.AskFault.TheVariants as asking
 use Rattle.gv_checks.specs.declared.used.Used.{Used}
 use Rattle.gv_checks.specs.declared.judging.Progress.{Progress}
 
@@ -42,22 +37,12 @@ pub record IsFoundAt (g : Circuit) (used : Used) (n : ℕ) : Type 0 where
   pub there : n < length used.found.items
   pub is : slice_get used.found.items n ≡ Some (found_bits claim)
 
-abbrev pub SpentBy : Circuit → (budget : ℕ) → (given : List KnownRecord) → AskFault → Type 0
-SpentBy g budget given (asking.Spent sets) = IsSpent g budget given sets
-SpentBy g budget given asking.NoMemory = Unit {0}
-
 -- of some gates
 pub record AreSome (budget : ℕ) (given : List KnownRecord) (used : Used) (now : Counts) : Type 0 where
   pub start : Counts
   pub gates : List Circuit
   pub lowered : ℕ
   pub are : AreUsed budget given start gates used lowered now
-
--- what is counted: one more that is solved, but where a record was reused
-abbrev pub CountsAnswer : Result Answer AskFault → (before now : Counts) → Type 0
-CountsAnswer (Ok answer) before now = now ≡ (if answer.reused then before else after Solve before)
-CountsAnswer (Err (asking.Spent sets)) before now = now ≡ after Solve before
-CountsAnswer (Err asking.NoMemory) before now = MayCount before now
 
 -- what stood at a number still does
 abbrev pub Grows : (old new : List KnownRecord) → Type 0
@@ -96,13 +81,15 @@ pub record IsSomewhere (budget : ℕ) (given : List KnownRecord) (p : Progress) 
   pub done : List Query
   pub at : IsAt budget given start done p now
 
--- the first that is refused, behind so many
+-- the first that is refused, behind so many that have their certificates
 pub record IsStopped (budget : ℕ) (given : List KnownRecord) (queries : List Query) (count : ℕ) (fault : JudgeFault) : Type 0 where
   pub before : List Query
   pub query : Query
   pub behind : List Query
   pub queries_are : queries ≡ before ++ query ∷ behind
   pub within : AllByRecursion IsWithin before
+  pub certs : List Cert
+  pub are : AreCerts budget given (map gates_of before) certs
   pub backed : budget ≡ 0 → AllByRecursion (λ q. HasBacked given (gates_of q)) before
   pub count_is : count ≡ length before
   pub cause : Cause budget given query fault

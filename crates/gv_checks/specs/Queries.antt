@@ -1,5 +1,5 @@
 -- The queries of a repository under options, in their order.
-use Rattle.std.specs.Prelude.{ℕ, Bool, ◌&&◌, List, [], map, filter, flat_map, Option, Some, unwrap_or}
+use Rattle.std.specs.Prelude.{ℕ, Bool, ◌&&◌, List, [], map, filter, flat_map, Option, None, Some, unwrap_or}
 use Rattle.gv_expr.specs.Dep.{Dep}
 use Rattle.gv_expr.specs.Required.{Req}
 use Rattle.gv_facts.specs.Classes.{has_class}
@@ -17,13 +17,13 @@ use Rattle.gv_report.specs.declared.options.Options.{Options}
 use Rattle.gv_report.specs.declared.report.ContextName.{ContextName}
 use Rattle.gv_logic.specs.Bytes.{circuit_bytes}
 use Rattle.gv_logic.specs.Circuits.{Circuit}
-use Rattle.gv_checks.specs.Asked.{asked_flags, asked_gates, asked_items, asked_weight, least_asked}
+use Rattle.gv_checks.specs.Asked.{asked_flags, asked_gates, asked_items, asked_preferred, asked_weight, least_asked}
 use Rattle.gv_checks.specs.Cases.{Case, cases}
 use Rattle.gv_checks.specs.Classes.{classes, is_whole}
 use Rattle.gv_checks.specs.declared.names.QueryName.{QueryName}
 use Rattle.gv_load.specs.declared.loading.Repo.{Repo}
 
--- a question about a package in a context: may REQUIRED_USE hold, or may the class fail
+-- a query is about a package in a context: may REQUIRED_USE hold, or may the class fail
 pub record Query : Type 0 where
   pub case : Case
   pub class : Class
@@ -67,6 +67,11 @@ class_queries options ks c = map (query_of c) (filter (is_asked options c) ks)
 abbrev pub case_queries : Options → Case → List Query
 case_queries options c = class_queries options classes c
 
+-- of a package in a profile, where that judges it
+abbrev pub case_asks : Options → Option Case → List Query
+case_asks options None = []
+case_asks options (Some c) = case_queries options c
+
 -- the same without options
 abbrev pub case_queries_all : Case → List Query
 case_queries_all c = map (query_of c) (filter (has_query c) classes)
@@ -89,6 +94,9 @@ class_of q = class_in q.case.member.body q.class
 abbrev pub flags_of : Query → List (List ℕ)
 flags_of q = asked_flags q.case.parent (required_of q) (class_of q)
 
+abbrev pub preferred_of : Query → List Bool
+preferred_of q = asked_preferred q.case.parent (required_of q) (class_of q)
+
 abbrev pub gates_of : Query → Circuit
 gates_of q = asked_gates q.case.parent (required_of q) (class_of q)
 
@@ -101,6 +109,6 @@ weight_of q = asked_weight q.case.parent (required_of q) (class_of q)
 abbrev pub gates_bytes : Query → List ℕ
 gates_bytes q = circuit_bytes (gates_of q)
 
--- the least assignment that is asked for, as bits of the flags, if there is one
+-- the least assignment that is asked for, as bits of the flags that haven't their preferred value, if there is one
 abbrev pub least_of : Query → Option (List Bool)
 least_of q = least_asked q.case.parent (required_of q) (class_of q)

@@ -1,11 +1,11 @@
 -- Judging by records alone: each query has a backed record among those that are given, or the first that has none is told.
-use Rattle.std.specs.Prelude.{◌≡◌, ℕ, ◌+◌, List, ◌∷◌, ◌++◌, length, Result, Ok, Err}
+use Rattle.std.specs.Prelude.{◌≡◌, ℕ, ◌+◌, true, List, ◌∷◌, ◌++◌, length, map, Result, Ok, Err}
 use Rattle.std.specs.List.{AllByRecursion}
 use Rattle.gv_cert.specs.Backing.{NoneBacked}
 use Rattle.gv_cert.specs.Known.{KnownRecord}
 use Rattle.gv_logic.specs.Circuits.{IsCircuit}
 use Rattle.gv_report.specs.declared.options.Options.{Options}
-use Rattle.gv_checks.specs.Certs.{HasBacked}
+use Rattle.gv_checks.specs.Certs.{AreCerts, Cert, HasBacked, cert_record}
 use Rattle.gv_checks.specs.Limits.{IsPast, IsWithin, place_of}
 use Rattle.gv_checks.specs.Queries.{Query, gates_of, queries}
 use Rattle.gv_checks.specs.RepoReports.{scan_reports}
@@ -14,9 +14,14 @@ use Rattle.gv_checks.specs.declared.recalled.RecallFault.TheVariants.{NotBacked,
 use Rattle.gv_checks.specs.declared.recalled.Recalled.{Recalled}
 use Rattle.gv_load.specs.declared.loading.Repo.{Repo}
 
--- the reports of a scan; each query is within the limits, its gates are a circuit, and a record of them is backed
+-- the reports of a scan; one record for each distinct query, in order of first use, each of them the first given one that is backed; each
+-- query is within the limits, its gates are a circuit, and a record of them is backed
 pub record IsRecalled (options : Options) (given : List KnownRecord) (repo : Repo) (r : Recalled) : Type 0 where
   pub reports_are : r.reports ≡ scan_reports options repo
+  pub certs : List Cert
+  pub are : AreCerts 0 given (map gates_of (queries options repo)) certs
+  pub reused : AllByRecursion (λ c. c.reused ≡ true) certs
+  pub records_are : r.certs ≡ map cert_record certs
   pub queries_are : r.queries ≡ length (queries options repo)
   pub within : AllByRecursion IsWithin (queries options repo)
   pub formed : AllByRecursion (λ q. IsCircuit (gates_of q)) (queries options repo)

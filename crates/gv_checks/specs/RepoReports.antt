@@ -15,7 +15,7 @@ use Rattle.gv_facts.specs.Visible.{matches_pkg}
 use Rattle.gv_facts.specs.declared.kinds.Class.{Class}
 use Rattle.gv_facts.specs.declared.kinds.Class.TheVariants.{Required}
 use Rattle.gv_facts.specs.declared.pkg.Pkg.{Pkg}
-use Rattle.gv_entry.specs.Allowed.{assignment, first_failing}
+use Rattle.gv_entry.specs.Allowed.{assignment, first_failing, values_by}
 use Rattle.gv_entry.specs.Queries.{class_in}
 use Rattle.gv_entry.specs.declared.entry.Body.{Body}
 use Rattle.gv_report.specs.Emitted.{reports_text}
@@ -28,7 +28,7 @@ use Rattle.gv_report.specs.declared.report.Subject.{Subject}
 use Rattle.gv_report.specs.declared.report.Subject.TheVariants.{Package}
 use Rattle.gv_checks.specs.Cases.{Case, Member, cases_of, members}
 use Rattle.gv_checks.specs.Classes.{classes, is_whole}
-use Rattle.gv_checks.specs.Queries.{Query, case_queries_all, class_keyword, class_of, context_of, flags_of, least_of, required_of}
+use Rattle.gv_checks.specs.Queries.{Query, case_queries_all, class_keyword, class_of, context_of, flags_of, least_of, preferred_of, required_of}
 use Rattle.gv_load.specs.declared.loading.Repo.{Repo}
 
 abbrev pub subject_of : Pkg → Subject
@@ -108,15 +108,16 @@ member_plain repo m = flat_map (nonexistent_in repo.pkgs m.pkg m.body) (readable
 abbrev pub plain_reports : Repo → List Report
 plain_reports repo = repo.notes ++ flat_map (member_plain repo) (members repo)
 
--- Of queries. The flags, each with `-` before it where it is off.
+-- Of queries. The flags with these values, each with `-` before it where it is off.
 abbrev pub witness_words : List (List ℕ) → List Bool → List (List ℕ)
-witness_words [] bits = []
+witness_words [] values = []
 witness_words (f ∷ fs) [] = []
-witness_words (f ∷ fs) (true ∷ bs) = f ∷ witness_words fs bs
-witness_words (f ∷ fs) (false ∷ bs) = (codes "-" ++ f) ∷ witness_words fs bs
+witness_words (f ∷ fs) (true ∷ vs) = f ∷ witness_words fs vs
+witness_words (f ∷ fs) (false ∷ vs) = (codes "-" ++ f) ∷ witness_words fs vs
 
+-- the values by the bits, which say that a flag hasn't its preferred value
 abbrev pub witness_of : Query → List Bool → List ℕ
-witness_of q bits = joined (witness_words (flags_of q) bits)
+witness_of q bits = joined (witness_words (flags_of q) (values_by (preferred_of q) bits))
 
 -- the first top item that doesn't hold under these bits
 abbrev pub failing_text : Query → List Dep → List Bool → List ℕ

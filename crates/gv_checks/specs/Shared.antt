@@ -1,4 +1,8 @@
 -- Queries of a package that were lowered, and are shared by contexts in which they are the same.
+-- A package's lowered queries are kept by expression and key. A context whose key is there takes the query and the
+-- number of its answer, and makes a report of its own; a class whose expression was asked about before in the context
+-- needs no key. That the number is that of a record with the query's bytes is kept along the walk (`AreNoted`), since
+-- records are only added, so the bytes aren't compared again.
 use Rattle.std.specs.Prelude.{◌≡◌, ◌⊎◌, ℕ, ◌+◌, option_to_list, Result, Ok, Err, ◌<◌, ◌≤◌, List, [], ◌∷◌, ◌++◌, length, slice_get, Option, None, Some, unwrap_or}
 use Rattle.std.specs.List.{AllByRecursion}
 use Rattle.gv_base.specs.Counts.{Counts}
@@ -15,7 +19,7 @@ use Rattle.gv_logic.specs.Bytes.{circuit_bytes}
 use Rattle.gv_lower.specs.Keys.{query_key, required_key}
 use Rattle.gv_lower.specs.Lowering.{IsQuery}
 use Rattle.gv_lower.specs.declared.query.Query as lowered
-use Rattle.gv_checks.specs.Asked.{asked_flags, asked_gates, asked_items, asked_weight}
+use Rattle.gv_checks.specs.Asked.{asked_flags, asked_gates, asked_items, asked_preferred, asked_weight}
 use Rattle.gv_cert.specs.Known.{HasQuery, KnownRecord}
 use Rattle.gv_logic.specs.Circuits.{Circuit, IsCircuit}
 use Rattle.gv_checks.specs.Certs.{HasBacked}
@@ -26,7 +30,7 @@ use Rattle.gv_checks.specs.Progress.{AreUsed, Grows}
 use Rattle.gv_checks.specs.RepoReports.{query_report}
 use Rattle.gv_checks.specs.declared.fault.JudgeFault.{JudgeFault}
 use Rattle.gv_checks.specs.declared.judging.Progress.{Progress}
-use Rattle.gv_checks.specs.Queries.{Query, class_of, flags_of, gates_bytes, gates_of, items_of, query_of, required_of}
+use Rattle.gv_checks.specs.Queries.{Query, class_of, flags_of, gates_bytes, gates_of, items_of, preferred_of, query_of, required_of}
 use Rattle.gv_checks.specs.declared.context.JudgedPkg.{JudgedPkg}
 use Rattle.gv_checks.specs.declared.shared.Placed.{Placed}
 use Rattle.gv_checks.specs.declared.shared.Shared.{Shared}
@@ -48,7 +52,7 @@ pub record IsShared (pkg : Pkg) (body : Body) (e : SharedQuery) : Type 0 where
   pub few : length (asked_flags parent (unwrap_or body.required []) (class_in body e.class)) ≤ 4096
   pub light : asked_weight parent (unwrap_or body.required []) (class_in body e.class) ≤ 2000000
   pub query_is : IsQuery (asked_gates parent (unwrap_or body.required []) (class_in body e.class)) (asked_flags parent (unwrap_or body.required []) (class_in body e.class))
-      (asked_items parent (unwrap_or body.required []) (class_in body e.class)) e.query
+      (asked_items parent (unwrap_or body.required []) (class_in body e.class)) (asked_preferred parent (unwrap_or body.required []) (class_in body e.class)) e.query
   pub bytes_are : e.bytes ≡ circuit_bytes (asked_gates parent (unwrap_or body.required []) (class_in body e.class))
 
 abbrev pub AreShared : Pkg → Body → List SharedQuery → Type 0
@@ -57,7 +61,7 @@ AreShared pkg body es = AllByRecursion (IsShared pkg body) es
 -- it is what lowering this query gives
 pub record IsLoweredAs (q : Query) (e : SharedQuery) : Type 0 where
   pub within : IsWithin q
-  pub query_is : IsQuery (gates_of q) (flags_of q) (items_of q) e.query
+  pub query_is : IsQuery (gates_of q) (flags_of q) (items_of q) (preferred_of q) e.query
   pub bytes_are : e.bytes ≡ gates_bytes q
 
 -- so is the one that stands at this place

@@ -8,7 +8,7 @@ use gv_facts::{Class, Status};
 use gv_report::Keyword;
 
 /// The classes in the order of their queries.
-pub(crate) fn classes() -> [Class; 6]
+pub fn classes() -> [Class; 6]
     ensures { result ≡ classes }
 {
     [

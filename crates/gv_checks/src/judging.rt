@@ -5,30 +5,33 @@ ghost use Rattle.gv_base.specs.declared.steps.Kind.TheVariants.{Lower};
 ghost use Rattle.gv_cert.specs.Known.{KnownRecord};
 ghost use Rattle.gv_report.specs.Line.{package_text};
 ghost use Rattle.gv_lower.specs.Lowering.{IsQuery};
+ghost use Rattle.gv_query.specs.Asking.{MayCount};
 ghost use Rattle.gv_visible.specs.Candidates.{test_of};
-ghost use Rattle.gv_checks.specs.Context.{AreAround, case_of};
+ghost use Rattle.gv_checks.specs.Certs.{CountsAtMost};
+ghost use Rattle.gv_checks.specs.Context.{AreAround, IsNumbered, case_of};
 ghost use Rattle.gv_checks.specs.Keys.{ArePartsOf};
 ghost use Rattle.gv_checks.specs.Limits.{Cause, IsLimit, IsLimitOf, IsWithin};
-ghost use Rattle.gv_checks.specs.Shared.{AnswersKept, AreReady, IsLoweredAs, IsNoted};
+ghost use Rattle.gv_checks.specs.Shared.{AnswersKept, AreHere, AreReady, IsLoweredAs, IsNoted, IsSharedAt, MayLower, StayNoted};
+ghost use Rattle.gv_checks.specs.Seen.{seen};
 ghost use Rattle.gv_checks.specs.Progress.{AreSome, IsSomewhere, Judges};
-ghost use Rattle.gv_checks.specs.Queries.{case_queries, flags_of, gates_of, has_query, is_asked, is_selected, is_told, items_of, query_name, query_of};
+ghost use Rattle.gv_checks.specs.Queries.{class_queries, flags_of, gates_of, has_query, is_asked, is_told, items_of, preferred_of, query_name, query_of};
 
-use crate::classes::{classes, is_whole, query_keyword};
-use crate::context::JudgedPkg;
-use crate::keys::PkgSites;
+use crate::chosen::Asking;
+use crate::classes::{is_whole, query_keyword};
+use crate::context::{JudgedPkg, Spot};
 use crate::laws::gates_law;
 use crate::lowering::lower_query;
 use crate::reporting::report_of;
 use crate::shared::{Shared, SharedQuery};
-use crate::used::{AskFault, Used};
+use crate::used::Used;
+use crate::walking::Errand;
 use crate::{JudgeFault, QueryName, QueryNames};
 use gv_base::{Ledger, NoMemory, Steps, Text};
-use gv_cert::Known;
 use gv_facts::{Class, Context, Pkg, has_class};
 use gv_lower::{LowerFault, Query};
+use gv_query::AskFault;
 use gv_report::{Keyword, Options, Report, Reports};
-use gv_usestate::ProfileStates;
-use gv_visible::Candidates;
+use gv_visible::{Candidates, visible};
 use std::alloc::Global;
 
 /// How far judging has come: the answers so far, the reports, and the number of queries.
@@ -73,7 +76,7 @@ pub(crate) fn lowered<F: Fn(&Pkg) -> bool, L: Ledger>(
     requires around { AreAround (F.pre (test_of candidates.now)) (F.post (test_of candidates.now)) candidates.now judged.now }
     requires has { has_query (case_of judged.now) class ≡ true }
     ensures within { IfOk result (λ _. IsWithin (query_of (case_of judged.now) class)) }
-    ensures query { IfOk result (IsQuery (gates_of (query_of (case_of judged.now) class)) (flags_of (query_of (case_of judged.now) class)) (items_of (query_of (case_of judged.now) class))) }
+    ensures query { IfOk result (IsQuery (gates_of (query_of (case_of judged.now) class)) (flags_of (query_of (case_of judged.now) class)) (items_of (query_of (case_of judged.now) class)) (preferred_of (query_of (case_of judged.now) class))) }
     ensures refused { IfErr result (λ fault. (budget : ℕ) (given : List KnownRecord) → Cause budget given (query_of (case_of judged.now) class) fault) }
     ensures steps { steps.new ≡ after Lower steps.old }
 {
@@ -84,43 +87,70 @@ pub(crate) fn lowered<F: Fn(&Pkg) -> bool, L: Ledger>(
 }
 
 /// Answers the query, and adds its report if it has one. With no budget only records answer.
-pub(crate) fn judge_query<F: Fn(&Pkg) -> bool, L: Ledger>(
-    alloc: Global,
-    candidates: &Candidates<'_, F>,
-    judged: &JudgedPkg<'_>,
+pub(crate) fn judge_query<L: Ledger>(
+    errand: &Errand<'_>,
+    spot: &Spot<'_>,
     class: Class,
-    states: &ProfileStates<'_>,
-    sites: &PkgSites<'_>,
-    required: &[u8],
-    budget: u32,
-    given: &Known,
     progress: &mut Progress,
     shared: &mut Shared,
     steps: &mut Steps<L>,
 ) -> Result<(), JudgeFault>
-    requires around { AreAround (F.pre (test_of candidates.now)) (F.post (test_of candidates.now)) candidates.now judged.now }
-    requires parts { ArePartsOf judged.now states.now sites.now required.now }
-    requires has { has_query (case_of judged.now) class ≡ true }
-    requires shared { AreReady judged.now progress.old.used.certs shared.old }
-    requires most { budget ≤ 1000000 }
-    requires somewhere { IsSomewhere budget given.now progress.old steps.old }
-    ensures judges { Judges budget given.now (query_of (case_of judged.now) class ∷ []) progress.old progress.new steps.old steps.new result }
-    ensures unsolved { budget ≡ 0 → steps.new.solve ≡ steps.old.solve }
-    ensures shared { OnOk result (AreReady judged.now progress.new.used.certs shared.new) }
+    requires numbered { IsNumbered spot.now.judged }
+    requires view { spot.now.view.now ≡ seen spot.now.judged.pkgs.now spot.now.judged.profile.now }
+    requires parts { ArePartsOf spot.now.judged spot.now.judged.profile.now spot.now.sites.now shared.old.required.items }
+    requires has { has_query (case_of spot.now.judged) class ≡ true }
+    requires shared { AreReady spot.now.judged progress.old.used.certs shared.old }
+    requires somewhere { IsSomewhere errand.now.asking.now.budget errand.now.asking.now.given.now progress.old steps.old }
+    ensures judges { Judges errand.now.asking.now.budget errand.now.asking.now.given.now (query_of (case_of spot.now.judged) class ∷ []) progress.old progress.new steps.old steps.new result }
+    ensures few { CountsAtMost 1 steps.old steps.new }
+    ensures unsolved { errand.now.asking.now.budget ≡ 0 → steps.new.solve ≡ steps.old.solve }
+    ensures shared { OnOk result (AreReady spot.now.judged progress.new.used.certs shared.new) }
+    ensures required { shared.new.required.items ≡ shared.old.required.items }
 {
-    let at = match shared.place(
-        alloc, candidates, judged, class, states, sites, required, steps,
-    ) {
+    let alloc = errand.alloc;
+    let at = match place_query(alloc, spot, class, shared, steps) {
         Ok(at) => at,
         Err(fault) => return Err(fault),
     };
     let kept = &shared.queries[at];
-    let place = match judge_kept(alloc, judged, class, kept, budget, given, progress, steps) {
+    let asking = errand.asking;
+    let place = match judge_kept(alloc, asking, &spot.judged, class, kept, progress, steps) {
         Ok(place) => place,
         Err(fault) => return Err(fault),
     };
     shared.note(at, place);
     Ok(())
+}
+
+// The place of the query among those that are kept, for one of which it is lowered if need be.
+fn place_query<L: Ledger>(
+    alloc: Global,
+    spot: &Spot<'_>,
+    class: Class,
+    shared: &mut Shared,
+    steps: &mut Steps<L>,
+) -> Result<usize, JudgeFault>
+    requires numbered { IsNumbered spot.now.judged }
+    requires view { spot.now.view.now ≡ seen spot.now.judged.pkgs.now spot.now.judged.profile.now }
+    requires parts { ArePartsOf spot.now.judged spot.now.judged.profile.now spot.now.sites.now shared.old.required.items }
+    requires has { has_query (case_of spot.now.judged) class ≡ true }
+    requires here { AreHere spot.now.judged shared.old }
+    ensures at { IfOk result (IsSharedAt (query_of (case_of spot.now.judged) class) shared.new.queries.items) }
+    ensures here { IfOk result (λ _. AreHere spot.now.judged shared.new) }
+    ensures noted { IfOk result (λ _. StayNoted shared.old.queries.items shared.new.queries.items) }
+    ensures refused { IfErr result (λ fault. (budget : ℕ) (given : List KnownRecord) → Cause budget given (query_of (case_of spot.now.judged) class) fault) }
+    ensures steps { MayLower steps.old steps.new }
+    ensures required { shared.new.required.items ≡ shared.old.required.items }
+{
+    let view = spot.view;
+    let profile = view.profile();
+    let level = spot.judged.level;
+    let test = |pkg: &Pkg| visible(pkg, profile, level);
+    let candidates = match view.candidates(alloc, level, test) {
+        Ok(candidates) => candidates,
+        Err(NoMemory) => return Err(JudgeFault::NoMemory),
+    };
+    shared.place(alloc, &candidates, spot, class, steps)
 }
 
 /// Whether reports of the keyword are selected in the context.
@@ -141,18 +171,7 @@ pub(crate) fn is_asked(options: &Options, judged: &JudgedPkg<'_>, class: Class) 
     let body = judged.body;
     let is_there = has_class(judged.pkg.eapi, class)
         && (is_whole(body, Class::Required) && is_whole(body, class));
-    is_there && is_selected(options, judged, class)
-}
-
-/// Adds the names of the queries of a package in a context.
-pub(crate) fn add_case_names(
-    options: &Options,
-    judged: &JudgedPkg<'_>,
-    names: &mut QueryNames,
-) -> Result<(), NoMemory>
-    ensures { OnOk result (names.new ≡ names.old ++ map query_name (case_queries options.now (case_of judged.now))) }
-{
-    add_names(options, judged, &classes(), names)
+    is_there && is_told(options, judged, query_keyword(judged.profile.status, class))
 }
 
 // CATEGORY/PF
@@ -197,20 +216,19 @@ pub(crate) fn add_report(reports: &mut Reports, report: Option<Report>) -> Resul
 // Answers a query that was lowered; where its answer stands.
 fn judge_kept<L: Ledger>(
     alloc: Global,
+    asking: &Asking<'_>,
     judged: &JudgedPkg<'_>,
     class: Class,
     kept: &SharedQuery,
-    budget: u32,
-    given: &Known,
     progress: &mut Progress,
     steps: &mut Steps<L>,
 ) -> Result<usize, JudgeFault>
     requires kept { IsLoweredAs (query_of (case_of judged.now) class) kept.now }
     requires noted { IsNoted progress.old.used.certs kept.now }
-    requires most { budget ≤ 1000000 }
-    requires used { AreSome budget given.now progress.old.used steps.old }
-    ensures answers { AnswersKept budget given.now (query_of (case_of judged.now) class) progress.old progress.new steps.old steps.new result }
-    ensures unsolved { budget ≡ 0 → steps.new ≡ steps.old }
+    requires used { AreSome asking.now.budget asking.now.given.now progress.old.used steps.old }
+    ensures answers { AnswersKept asking.now.budget asking.now.given.now (query_of (case_of judged.now) class) progress.old progress.new steps.old steps.new result }
+    ensures few { MayCount steps.old steps.new }
+    ensures unsolved { asking.now.budget ≡ 0 → steps.new ≡ steps.old }
 {
     gates_law();
     let query = &kept.query;
@@ -220,8 +238,7 @@ fn judge_kept<L: Ledger>(
         kept.place,
         &kept.bytes,
         &query.gates,
-        budget,
-        given,
+        asking,
         steps,
     ) {
         Ok(place) => place,
@@ -239,19 +256,14 @@ fn judge_kept<L: Ledger>(
     Ok(place)
 }
 
-fn is_selected(options: &Options, judged: &JudgedPkg<'_>, class: Class) -> bool
-    ensures { result ≡ is_selected options.now (case_of judged.now) class }
-{
-    is_told(options, judged, query_keyword(judged.profile.status, class))
-}
-
-fn add_names(
+/// Adds the names of the queries of a package in a context, of these classes.
+pub(crate) fn add_names(
     options: &Options,
     judged: &JudgedPkg<'_>,
     classes: &[Class],
     names: &mut QueryNames,
 ) -> Result<(), NoMemory>
-    ensures { OnOk result (names.new ≡ names.old ++ map query_name (map (query_of (case_of judged.now)) (filter (is_asked options.now (case_of judged.now)) classes.now))) }
+    ensures { OnOk result (names.new ≡ names.old ++ map query_name (class_queries options.now classes.now (case_of judged.now))) }
 {
     for class in classes {
         if is_asked(options, judged, *class) {

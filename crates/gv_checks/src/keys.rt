@@ -17,10 +17,10 @@ use crate::context::JudgedPkg;
 use gv_base::NoMemory;
 use gv_entry::Body;
 use gv_expr::{DepExpr, UseExpr};
-use gv_facts::{Class, Pkg};
+use gv_facts::{Class, Pkg, Pkgs};
 use gv_lower::{ClassSites, RequiredFlags, add_class_key, add_required_key};
 use gv_usestate::{ProfileStates, RuledFlags};
-use gv_visible::{Candidates, PkgIndex};
+use gv_visible::Candidates;
 use std::alloc::Global;
 
 /// What the queries of a package ask about, of each class that isn't broken and is the first with its expression.
@@ -41,11 +41,11 @@ impl<'a> PkgSites<'a> {
     pub(crate) fn new(
         alloc: Global,
         ruled: &'a RuledFlags<'a>,
-        index: &'a PkgIndex<'a>,
+        pkgs: &'a Pkgs,
         pkg: &'a Pkg,
         body: &'a Body,
     ) -> Result<PkgSites<'a>, NoMemory>
-        ensures { IfOk result (AreSitesOf ruled.now pkg.now index.now body.now) }
+        ensures { IfOk result (AreSitesOf ruled.now pkg.now pkgs.now body.now) }
     {
         let firsts = Firsts::of(body);
         let bdepend = firsts.is_first(Class::Bdepend);
@@ -55,11 +55,11 @@ impl<'a> PkgSites<'a> {
         Ok(PkgSites {
             firsts,
             required: required_in(alloc, ruled, pkg, &body.required)?,
-            depend: sites_in(alloc, ruled, pkg, index, &body.depend)?,
-            bdepend: sites_if(alloc, ruled, pkg, index, bdepend, &body.bdepend)?,
-            rdepend: sites_if(alloc, ruled, pkg, index, rdepend, &body.rdepend)?,
-            pdepend: sites_if(alloc, ruled, pkg, index, pdepend, &body.pdepend)?,
-            idepend: sites_if(alloc, ruled, pkg, index, idepend, &body.idepend)?,
+            depend: sites_in(alloc, ruled, pkg, pkgs, &body.depend)?,
+            bdepend: sites_if(alloc, ruled, pkg, pkgs, bdepend, &body.bdepend)?,
+            rdepend: sites_if(alloc, ruled, pkg, pkgs, rdepend, &body.rdepend)?,
+            pdepend: sites_if(alloc, ruled, pkg, pkgs, pdepend, &body.pdepend)?,
+            idepend: sites_if(alloc, ruled, pkg, pkgs, idepend, &body.idepend)?,
         })
     }
 
@@ -142,13 +142,13 @@ fn sites_in<'a>(
     alloc: Global,
     ruled: &'a RuledFlags<'a>,
     pkg: &'a Pkg,
-    index: &PkgIndex<'a>,
+    pkgs: &'a Pkgs,
     class: &'a Option<DepExpr>,
 ) -> Result<Option<ClassSites<'a>>, NoMemory>
-    ensures { IfOk result (λ sites. sites ≡ option_map (sites_in ruled.now pkg.now index.now) class.now) }
+    ensures { IfOk result (λ sites. sites ≡ option_map (sites_in ruled.now pkg.now pkgs.now) class.now) }
 {
     match class {
-        Some(class) => Ok(Some(ClassSites::new(alloc, ruled, pkg, index, class)?)),
+        Some(class) => Ok(Some(ClassSites::new(alloc, ruled, pkg, pkgs, class)?)),
         None => Ok(None),
     }
 }
@@ -158,14 +158,14 @@ fn sites_if<'a>(
     alloc: Global,
     ruled: &'a RuledFlags<'a>,
     pkg: &'a Pkg,
-    index: &PkgIndex<'a>,
+    pkgs: &'a Pkgs,
     is_first: bool,
     class: &'a Option<DepExpr>,
 ) -> Result<Option<ClassSites<'a>>, NoMemory>
-    ensures { IfOk result (λ sites. is_first ≡ true → sites ≡ option_map (sites_in ruled.now pkg.now index.now) class.now) }
+    ensures { IfOk result (λ sites. is_first ≡ true → sites ≡ option_map (sites_in ruled.now pkg.now pkgs.now) class.now) }
 {
     if is_first {
-        sites_in(alloc, ruled, pkg, index, class)
+        sites_in(alloc, ruled, pkg, pkgs, class)
     } else {
         Ok(None)
     }

@@ -1,56 +1,33 @@
 //! What given records know of one query, without a solver.
 //!
-//! `known_one` indexes the packages; a caller of many makes one index for `known_among`. Besides that each costs finding
-//! the query, lowering it, and checking its records up to the first that is backed.
+//! `known_one` costs finding the query, lowering it, and checking its records up to the first that is backed.
 ghost use Rattle.std.specs.Prelude.{◌≡◌, true};
 ghost use Rattle.gv_base.specs.Steps.{after};
 ghost use Rattle.gv_base.specs.declared.steps.Kind.TheVariants.{Lower};
 ghost use Rattle.gv_visible.specs.Candidates.{test_of};
 ghost use Rattle.gv_checks.specs.Answered.{CountsKnown, Knows};
 ghost use Rattle.gv_checks.specs.Context.{AreAround, IsNumbered, case_of};
-ghost use Rattle.gv_checks.specs.Named.{KnowsNamed};
+ghost use Rattle.gv_checks.specs.Named.{HasNamed, KnowsNamed};
 ghost use Rattle.gv_checks.specs.Queries.{has_query, query_of};
 
 use crate::context::JudgedPkg;
 use crate::finding::find_named;
 use crate::lowering::lower_query;
 use crate::one::found_at;
-use crate::used::Answer;
 use crate::{Found1, QueryName};
 use gv_base::{Ledger, NoMemory, Steps};
 use gv_cert::Known;
 use gv_facts::{Class, Pkg};
 use gv_load::Repo;
 use gv_lower::LowerFault;
-use gv_query::first_backed;
+use gv_query::{Answer, first_backed};
 use gv_report::Options;
-use gv_visible::{Candidates, PkgIndex, visible};
+use gv_visible::{Candidates, visible};
 use std::alloc::Global;
 
-/// `known_one` over an index of the repository's packages.
-#[tactic(auto, using(crate::proofs::KnownLemmas::knows_named, crate::proofs::KnownLemmas::counts_known))]
-pub fn known_among<L: Ledger>(
-    alloc: Global,
-    index: &PkgIndex<'_>,
-    repo: &Repo,
-    name: &QueryName,
-    options: &Options,
-    certs: &Known,
-    steps: &mut Steps<L>,
-) -> Result<Option<Found1>, LowerFault>
-    requires { index.now ≡ repo.now.pkgs }
-    ensures knows { KnowsNamed options.now certs.now repo.now name.now result }
-    ensures counted { CountsKnown result steps.old steps.new }
-{
-    let Some(judged) = find_named(repo, name, options) else {
-        return Err(LowerFault::NoMemory);
-    };
-    known_case(alloc, &*index, &judged, name.class, certs, steps)
-}
-
 /// The answer of the first backed record of the query of this name, which is one of those of the repository under the
-/// options; None exactly where none is backed. The query is lowered once and never solved. A name of no query finds no
-/// memory.
+/// options; None exactly where none is backed. The query is lowered once and never solved.
+#[tactic(auto, using(crate::proofs::KnownLemmas::knows_named))]
 pub fn known_one<L: Ledger>(
     alloc: Global,
     repo: &Repo,
@@ -59,11 +36,12 @@ pub fn known_one<L: Ledger>(
     certs: &Known,
     steps: &mut Steps<L>,
 ) -> Result<Option<Found1>, LowerFault>
+    requires { HasNamed options.now repo.now name.now }
     ensures knows { KnowsNamed options.now certs.now repo.now name.now result }
     ensures counted { CountsKnown result steps.old steps.new }
 {
-    let index = PkgIndex::new(&repo.pkgs);
-    known_among(alloc, &index, repo, name, options, certs, steps)
+    let judged = find_named(repo, name, options);
+    known_case(alloc, &judged, name.class, certs, steps)
 }
 
 // What is known of the query among the candidates.
@@ -101,23 +79,25 @@ fn known_at<F: Fn(&Pkg) -> bool, L: Ledger>(
 }
 
 // What is known of the query of a package in a context.
-fn known_case<'a, L: Ledger>(
+#[tactic(auto, using(crate::proofs::KnownLemmas::counts_known))]
+fn known_case<L: Ledger>(
     alloc: Global,
-    index: &'a PkgIndex<'a>,
-    judged: &JudgedPkg<'a>,
+    judged: &JudgedPkg<'_>,
     class: Class,
     certs: &Known,
     steps: &mut Steps<L>,
 ) -> Result<Option<Found1>, LowerFault>
     requires numbered { IsNumbered judged.now }
-    requires index { index.now ≡ judged.now.pkgs.now }
     requires has { has_query (case_of judged.now) class ≡ true }
     ensures knows { Knows certs.now (query_of (case_of judged.now) class) result }
-    ensures steps { steps.new ≡ after Lower steps.old }
+    ensures counted { CountsKnown result steps.old steps.new }
 {
     let profile = judged.profile;
     let level = judged.level;
     let test = |pkg: &Pkg| visible(pkg, profile, level);
-    let candidates = Candidates::over(index, profile, level, test);
+    let candidates = match Candidates::new(alloc, judged.pkgs, profile, level, test) {
+        Ok(candidates) => candidates,
+        Err(NoMemory) => return Err(LowerFault::NoMemory),
+    };
     known_at(alloc, &candidates, judged, class, certs, steps)
 }

@@ -2,62 +2,59 @@
 //!
 //! Stands on `gv_load` for the repository, `gv_lower` for the gates of a query, `gv_query` for answers from records or the
 //! solver, `gv_report` for reports, and what these stand on. The layers above use `judge` by the reports and certificates
-//! that it answers, `recall` where nothing is to be solved, `plain` by its list, `queries`, `ask_one` and `known_one` for single queries by their names, and of
-//! the laws what an answer says of all assignments.
+//! that it answers, `recall` where nothing is to be solved, `plain` and `plain_one` by their lists, `queries`, `ask_one` and
+//! `known_one` for single queries by their names, `Walk` for a choice of queries, and of the laws what an answer says of all
+//! assignments.
 //!
 //! - `names`: the names of queries. `context`: a package in a profile that judges it.
 //! - `classes`: the classes in order, and the keywords of their queries.
 //! - `lowering`, `judging`, `used`: a query lowered, judged, and its answer kept, one for each distinct gates.
 //! - `views`: what each profile shows and says of flags. `alike`, `keys`, `shared`: by what contexts and classes of a package
 //!   share a query.
-//! - `walking`, `whole`: all queries of a repository, and its reports and certificates. `recalled`: the same by records alone.
+//! - `chosen`: which queries are judged, and what answers them. `walk`, `walking`: a repository with the views of its profiles, and
+//!   the walk over its queries, of which those that are chosen are judged.
+//! - `whole`: a repository's reports and certificates. `recalled`: its reports by records alone.
 //! - `reporting`: the report of a query. `nonexistent`, `unstated`, `plainly`: the reports that need no query.
 //! - `finding`, `one`, `known`: one query by its name, answered or looked up.
-//! - `mentioned`: the names that packages' classes mention, by numbers. `touched`: what of each package rests on edited entries.
-//!   `stale`, `lasting`: which reports of before are stale, and their places. `afresh`, `due`: what is told anew without a query,
-//!   and the queries that are answered anew. `renewing`: the reports of a repository in which entries were edited, from those of
-//!   before.
 //! - `laws`: what answers mean.
 #![tactic(auto)]
 
-mod afresh;
 mod alike;
+mod chosen;
 mod classes;
 mod context;
-mod due;
 mod fault;
 mod finding;
 mod judging;
 mod keys;
 mod known;
-mod lasting;
 mod laws;
 mod lowering;
-mod mentioned;
 mod names;
 mod nonexistent;
 mod one;
 mod plainly;
 mod recalled;
-mod renewing;
 mod reporting;
 mod shared;
-mod stale;
-mod touched;
 mod unstated;
 mod used;
 mod views;
+mod walk;
 mod walking;
 mod whole;
 
+pub use chosen::{Asking, Chosen, ClassSet};
+pub use classes::classes as class_order;
 pub use fault::JudgeFault;
-pub use known::{known_among, known_one};
-pub use laws::{answers_law, gates_law, names_law};
-pub use mentioned::Mentioned;
+pub use known::known_one;
+pub use laws::{
+    answers_law, certs_law, gates_law, names_law, packages_law, parts_law, records_law, walk_law,
+};
 pub use names::{QueryName, QueryNames};
-pub use one::{Found1, ask_among, ask_one};
-pub use plainly::plain;
+pub use one::{Found1, ask_one};
+pub use plainly::{noted, plain, plain_one, selected_of};
 pub use recalled::{RecallFault, Recalled, recall};
-pub use renewing::renew;
-pub use walking::queries;
+pub use walk::Walk;
+pub use walking::{Answers, Stopped, queries};
 pub use whole::{Judged, judge};

@@ -5,7 +5,7 @@ ghost use Rattle.gv_base.specs.declared.steps.Kind.TheVariants.{Lower};
 ghost use Rattle.gv_lower.specs.Lowering.{IsQuery, Lowered};
 ghost use Rattle.gv_visible.specs.Candidates.{test_of};
 ghost use Rattle.gv_checks.specs.Context.{AreAround, case_of};
-ghost use Rattle.gv_checks.specs.Queries.{flags_of, gates_of, has_query, items_of, query_of, weight_of};
+ghost use Rattle.gv_checks.specs.Queries.{flags_of, gates_of, has_query, items_of, preferred_of, query_of, weight_of};
 
 use crate::context::JudgedPkg;
 use gv_base::{Ledger, Steps};
@@ -26,7 +26,7 @@ pub(crate) fn lower_query<F: Fn(&Pkg) -> bool, L: Ledger>(
 ) -> Result<Query, LowerFault>
     requires around { AreAround (F.pre (test_of candidates.now)) (F.post (test_of candidates.now)) candidates.now judged.now }
     requires has { has_query (case_of judged.now) class ≡ true }
-    ensures lowered { let q = query_of (case_of judged.now) class in Lowered (flags_of q) (weight_of q) (IsQuery (gates_of q) (flags_of q) (items_of q)) result }
+    ensures lowered { let q = query_of (case_of judged.now) class in Lowered (flags_of q) (weight_of q) (IsQuery (gates_of q) (flags_of q) (items_of q) (preferred_of q)) result }
     ensures steps { steps.new ≡ after Lower steps.old }
 {
     let (number, body) = (judged.number, judged.body);

@@ -3,23 +3,23 @@
 //! O(a class's trees), down at most 64 groups, and for each atom a look-up by hash of its category and name, and a test
 //! of the packages of that name.
 ghost use Rattle.std.specs.Prelude.{◌≡◌, ◌++◌, ◌∷◌, [], map, filter, flat_map, IfOk, OnOk};
-ghost use Rattle.std.specs.List.{AllByRecursion, list_any};
 ghost use Rattle.gv_expr.specs.Dep.{deps};
 ghost use Rattle.gv_expr.specs.DepView.{dep_of};
 ghost use Rattle.gv_expr.specs.Mentions.{with_atom};
-ghost use Rattle.gv_visible.specs.PkgIndex.{IsNamedAt};
-ghost use Rattle.gv_checks.specs.Plain.{matches_at, nowhere_in, told_nonexistent};
+ghost use Rattle.gv_checks.specs.Plain.{nowhere_in, told_nonexistent};
 ghost use Rattle.gv_checks.specs.RepoReports.{is_nowhere, is_readable, nonexistent, nonexistent_in};
+ghost use Rattle.gv_checks.specs.Telling.{told_of_class};
 
 use crate::classes::{classes, is_whole};
+use crate::context::ListedPkg;
 use crate::reporting::subject_of;
 use gv_atom::{Atom, Block, print_atom};
 use gv_base::NoMemory;
 use gv_entry::{Body, class_in};
 use gv_expr::{DepExpr, DepTree};
-use gv_facts::{Class, Pkg, has_class, matches_named};
+use gv_facts::{Class, Pkg, Pkgs, has_class};
 use gv_report::{Keyword, Options, Report, Reports};
-use gv_visible::PkgIndex;
+use gv_visible::some_matches;
 use std::alloc::Global;
 
 /// Whether the EAPI has the class, and it isn't broken.
@@ -33,47 +33,40 @@ pub(crate) fn is_readable(pkg: &Pkg, body: &Body, class: Class) -> bool
 pub(crate) fn add_nonexistent(
     alloc: Global,
     options: &Options,
-    index: &PkgIndex<'_>,
+    pkgs: &Pkgs,
     pkg: &Pkg,
     body: &Body,
     reports: &mut Reports,
 ) -> Result<(), NoMemory>
-    ensures { OnOk result (reports.new ≡ reports.old ++ told_nonexistent options.now index.now pkg.now body.now) }
+    ensures { OnOk result (reports.new ≡ reports.old ++ told_nonexistent options.now pkgs.now pkg.now body.now) }
 {
     if options.keywords.has(Keyword::NonexistentDeps) {
-        return add_classes(alloc, index, pkg, body, &classes(), reports);
+        return add_classes(alloc, pkgs, pkg, body, &classes(), reports);
     }
     Ok(())
 }
 
-// Whether the package at this place, which has the atom's category and name, matches.
-fn matches_at(pkgs: &[Pkg], place: u32, atom: &Atom) -> bool
-    requires { IsNamedAt atom.now.category atom.now.name pkgs.now place }
-    ensures { result ≡ matches_at atom.now pkgs.now place }
+/// Adds those of one of the classes alone.
+pub(crate) fn add_nonexistent_in(
+    alloc: Global,
+    options: &Options,
+    one: &ListedPkg<'_>,
+    pkgs: &Pkgs,
+    class: Class,
+    reports: &mut Reports,
+) -> Result<(), NoMemory>
+    ensures { OnOk result (reports.new ≡ reports.old ++ told_of_class class options.now pkgs.now one.now.pkg.now one.now.body.now) }
 {
-    match pkgs.get(place as usize) {
-        Some(pkg) => matches_named(atom, pkg),
-        None => false,
+    if options.keywords.has(Keyword::NonexistentDeps) && is_readable(one.pkg, one.body, class) {
+        return add_class(alloc, pkgs, one.pkg, one.body, class, reports);
     }
+    Ok(())
 }
 
-fn some_match(pkgs: &[Pkg], places: &[u32], atom: &Atom) -> bool
-    requires { AllByRecursion (IsNamedAt atom.now.category atom.now.name pkgs.now) places.now }
-    ensures { result ≡ list_any (matches_at atom.now pkgs.now) places.now }
+fn is_nowhere(pkgs: &Pkgs, atom: &Atom) -> bool
+    ensures { result ≡ is_nowhere pkgs.now atom.now }
 {
-    for place in places {
-        if matches_at(pkgs, *place, atom) {
-            return true;
-        }
-    }
-    false
-}
-
-// What matches has the atom's category and name, so no other package is looked at.
-fn is_nowhere(index: &PkgIndex<'_>, atom: &Atom) -> bool
-    ensures { result ≡ is_nowhere index.now atom.now }
-{
-    !some_match(index.pkgs().items(), index.named(atom), atom)
+    !some_matches(pkgs, atom)
 }
 
 fn nonexistent(alloc: Global, pkg: &Pkg, class: Class, atom: &Atom) -> Result<Report, NoMemory>
@@ -91,15 +84,15 @@ fn nonexistent(alloc: Global, pkg: &Pkg, class: Class, atom: &Atom) -> Result<Re
 
 fn add_wanted(
     alloc: Global,
-    index: &PkgIndex<'_>,
+    pkgs: &Pkgs,
     pkg: &Pkg,
     class: Class,
     atom: &Atom,
     reports: &mut Reports,
 ) -> Result<(), NoMemory>
-    ensures { OnOk result (reports.new ≡ reports.old ++ map (nonexistent pkg.now class) (filter (is_nowhere index.now) (atom.now ∷ []))) }
+    ensures { OnOk result (reports.new ≡ reports.old ++ map (nonexistent pkg.now class) (filter (is_nowhere pkgs.now) (atom.now ∷ []))) }
 {
-    if is_nowhere(index, atom) {
+    if is_nowhere(pkgs, atom) {
         reports.add(nonexistent(alloc, pkg, class, atom)?)?;
     }
     Ok(())
@@ -107,16 +100,16 @@ fn add_wanted(
 
 fn add_atom(
     alloc: Global,
-    index: &PkgIndex<'_>,
+    pkgs: &Pkgs,
     pkg: &Pkg,
     class: Class,
     atom: &Atom,
     reports: &mut Reports,
 ) -> Result<(), NoMemory>
-    ensures { OnOk result (reports.new ≡ reports.old ++ map (nonexistent pkg.now class) (filter (is_nowhere index.now) (with_atom atom.now atom.now.block []))) }
+    ensures { OnOk result (reports.new ≡ reports.old ++ map (nonexistent pkg.now class) (filter (is_nowhere pkgs.now) (with_atom atom.now atom.now.block []))) }
 {
     match atom.block {
-        Block::No => add_wanted(alloc, index, pkg, class, atom, reports),
+        Block::No => add_wanted(alloc, pkgs, pkg, class, atom, reports),
         Block::Weak | Block::Strong => Ok(()),
     }
 }
@@ -124,16 +117,16 @@ fn add_atom(
 #[cycle(atoms)]
 fn add_deps(
     alloc: Global,
-    index: &PkgIndex<'_>,
+    pkgs: &Pkgs,
     pkg: &Pkg,
     class: Class,
     items: &DepExpr,
     reports: &mut Reports,
 ) -> Result<(), NoMemory>
-    ensures { OnOk result (reports.new ≡ reports.old ++ nowhere_in index.now pkg.now class (deps items.now)) }
+    ensures { OnOk result (reports.new ≡ reports.old ++ nowhere_in pkgs.now pkg.now class (deps items.now)) }
 {
     for tree in &items.items {
-        add_dep(alloc, index, pkg, class, tree, reports)?;
+        add_dep(alloc, pkgs, pkg, class, tree, reports)?;
     }
     Ok(())
 }
@@ -141,52 +134,52 @@ fn add_deps(
 #[cycle(atoms)]
 fn add_dep(
     alloc: Global,
-    index: &PkgIndex<'_>,
+    pkgs: &Pkgs,
     pkg: &Pkg,
     class: Class,
     tree: &DepTree,
     reports: &mut Reports,
 ) -> Result<(), NoMemory>
-    ensures { OnOk result (reports.new ≡ reports.old ++ nowhere_in index.now pkg.now class (deps (dep_of tree.now ∷ []))) }
+    ensures { OnOk result (reports.new ≡ reports.old ++ nowhere_in pkgs.now pkg.now class (deps (dep_of tree.now ∷ []))) }
 {
     match tree {
-        DepTree::Leaf { atom } => add_atom(alloc, index, pkg, class, atom, reports),
+        DepTree::Leaf { atom } => add_atom(alloc, pkgs, pkg, class, atom, reports),
         DepTree::All { items } | DepTree::Any { items } | DepTree::If { items, .. } => {
-            add_deps(alloc, index, pkg, class, items, reports)
+            add_deps(alloc, pkgs, pkg, class, items, reports)
         }
     }
 }
 
-/// Adds those of a class. REQUIRED_USE has no atoms.
-pub(crate) fn add_class(
+// Adds those of a class. REQUIRED_USE has no atoms.
+fn add_class(
     alloc: Global,
-    index: &PkgIndex<'_>,
+    pkgs: &Pkgs,
     pkg: &Pkg,
     body: &Body,
     class: Class,
     reports: &mut Reports,
 ) -> Result<(), NoMemory>
-    ensures { OnOk result (reports.new ≡ reports.old ++ nonexistent_in index.now pkg.now body.now class) }
+    ensures { OnOk result (reports.new ≡ reports.old ++ nonexistent_in pkgs.now pkg.now body.now class) }
 {
     match class_in(body, class) {
-        Some(items) => add_deps(alloc, index, pkg, class, items, reports),
+        Some(items) => add_deps(alloc, pkgs, pkg, class, items, reports),
         None => Ok(()),
     }
 }
 
 fn add_classes(
     alloc: Global,
-    index: &PkgIndex<'_>,
+    pkgs: &Pkgs,
     pkg: &Pkg,
     body: &Body,
     classes: &[Class],
     reports: &mut Reports,
 ) -> Result<(), NoMemory>
-    ensures { OnOk result (reports.new ≡ reports.old ++ flat_map (nonexistent_in index.now pkg.now body.now) (filter (is_readable pkg.now body.now) classes.now)) }
+    ensures { OnOk result (reports.new ≡ reports.old ++ flat_map (nonexistent_in pkgs.now pkg.now body.now) (filter (is_readable pkg.now body.now) classes.now)) }
 {
     for class in classes {
         if is_readable(pkg, body, *class) {
-            add_class(alloc, index, pkg, body, *class, reports)?;
+            add_class(alloc, pkgs, pkg, body, *class, reports)?;
         }
     }
     Ok(())

@@ -1,17 +1,19 @@
 //! One query answered.
 //!
-//! `ask_one` indexes the packages; a caller of many makes one index for `ask_among`. Besides that each costs finding the
-//! query, lowering it, its look-up among the records or the solver, and the bytes that it hands out.
+//! `ask_one` costs finding the query, lowering it, its look-up among the records or the solver, and the bytes that it hands
+//! out.
 ghost use Rattle.std.specs.Prelude.{◌≡◌, true, option_map, IfOk};
 ghost use Rattle.gv_base.specs.Words.{joined};
-ghost use Rattle.gv_cert.specs.Claim.{IsAnswer, claim_bytes};
+ghost use Rattle.gv_entry.specs.Allowed.{values_by};
+ghost use Rattle.gv_cert.specs.Backing.{Backs};
+ghost use Rattle.gv_cert.specs.Claim.{IsAnswerTo, answer_bytes};
 ghost use Rattle.gv_lower.specs.Lowering.{IsQuery};
 ghost use Rattle.gv_query.specs.Truth.{IsSo};
 ghost use Rattle.gv_visible.specs.Candidates.{test_of};
 ghost use Rattle.gv_checks.specs.Answered.{AnswersOne, CountsOne};
 ghost use Rattle.gv_checks.specs.Context.{AreAround, IsNumbered, case_of};
-ghost use Rattle.gv_checks.specs.Named.{AnswersNamed};
-ghost use Rattle.gv_checks.specs.Queries.{flags_of, gates_bytes, gates_of, has_query, items_of, least_of, query_of};
+ghost use Rattle.gv_checks.specs.Named.{AnswersNamed, HasNamed};
+ghost use Rattle.gv_checks.specs.Queries.{flags_of, gates_bytes, gates_of, has_query, items_of, least_of, preferred_of, query_of};
 ghost use Rattle.gv_checks.specs.RepoReports.{query_report, witness_of, witness_words};
 
 use crate::context::JudgedPkg;
@@ -19,16 +21,17 @@ use crate::finding::find_named;
 use crate::judging::{lowered, name_of};
 use crate::laws::gates_law;
 use crate::reporting::{report_of, witness_of};
-use crate::used::{Answer, AskFault, answer_of, into_found};
+use crate::used::into_found;
 use crate::{JudgeFault, QueryName};
 use gv_base::{Ledger, NoMemory, Steps, Text};
-use gv_cert::{Known, write_answer};
+use gv_cert::{Known, naming_law, write_answer};
 use gv_facts::{Class, Pkg};
 use gv_load::Repo;
-use gv_logic::{Bits, gate_bytes};
+use gv_logic::{Bits, clause_count, gate_bytes};
 use gv_lower::Query;
+use gv_query::{Answer, AskFault, answer_of};
 use gv_report::{Options, Report};
-use gv_visible::{Candidates, PkgIndex, visible};
+use gv_visible::{Candidates, visible};
 use std::alloc::Global;
 
 /// The answer to a query.
@@ -46,6 +49,29 @@ pub struct Found1 {
     pub reused: bool,
 }
 
+impl Found1 {
+    /// The same answer once more. O(bytes).
+    pub fn copy(&self, alloc: Global) -> Result<Found1, NoMemory>
+        ensures { IfOk result (λ found. found ≡ self.now) }
+    {
+        let witness = match &self.witness {
+            None => None,
+            Some(witness) => Some(witness.copy(alloc)?),
+        };
+        let report = match &self.report {
+            None => None,
+            Some(report) => Some(report.copy(alloc)?),
+        };
+        Ok(Found1 {
+            query: self.query.copy(alloc)?,
+            answer: self.answer.copy(alloc)?,
+            witness,
+            report,
+            reused: self.reused,
+        })
+    }
+}
+
 /// The answer as it is handed out.
 pub(crate) fn found_at(
     alloc: Global,
@@ -54,21 +80,23 @@ pub(crate) fn found_at(
     lowered: &Query,
     answer: Answer,
 ) -> Result<Found1, NoMemory>
-    requires lowered { IsQuery (gates_of (query_of (case_of judged.now) class)) (flags_of (query_of (case_of judged.now) class)) (items_of (query_of (case_of judged.now) class)) lowered.now }
+    requires lowered { IsQuery (gates_of (query_of (case_of judged.now) class)) (flags_of (query_of (case_of judged.now) class)) (items_of (query_of (case_of judged.now) class)) (preferred_of (query_of (case_of judged.now) class)) lowered.now }
     requires so { IsSo (gates_of (query_of (case_of judged.now) class)) answer.claim }
+    requires backed { Backs (gates_of (query_of (case_of judged.now) class)) answer.claim }
     ensures query { IfOk result (λ f. f.query ≡ gates_bytes (query_of (case_of judged.now) class)) }
-    ensures formed { IfOk result (λ f. IsAnswer (gates_of (query_of (case_of judged.now) class)).inputs answer.claim) }
-    ensures answer { IfOk result (λ f. f.answer ≡ claim_bytes answer.claim) }
+    ensures formed { IfOk result (λ f. IsAnswerTo (gates_of (query_of (case_of judged.now) class)) answer.claim) }
+    ensures answer { IfOk result (λ f. f.answer ≡ answer_bytes (gates_of (query_of (case_of judged.now) class)) answer.claim) }
     ensures witness { IfOk result (λ f. f.witness ≡ option_map (witness_of (query_of (case_of judged.now) class)) (least_of (query_of (case_of judged.now) class))) }
     ensures report { IfOk result (λ f. f.report ≡ query_report (query_of (case_of judged.now) class)) }
     ensures reused { IfOk result (λ f. f.reused ≡ answer.reused) }
 {
     gates_law();
+    naming_law();
     let Answer { claim, reused } = answer;
     let query = gate_bytes(alloc, &lowered.gates)?;
-    let answer = write_answer(alloc, &claim)?;
+    let answer = write_answer(alloc, clause_count(&lowered.gates), &claim)?;
     let found = into_found(claim);
-    let witness = found_text(alloc, lowered.flags.items(), &found)?;
+    let witness = found_text(alloc, lowered, &found)?;
     let report = report_of(alloc, judged, class, lowered, &found)?;
     Ok(Found1 {
         query,
@@ -79,29 +107,9 @@ pub(crate) fn found_at(
     })
 }
 
-/// `ask_one` over an index of the repository's packages.
-#[tactic(auto, using(crate::proofs::NamedLemmas::answers_named))]
-pub fn ask_among<L: Ledger>(
-    alloc: Global,
-    index: &PkgIndex<'_>,
-    repo: &Repo,
-    name: &QueryName,
-    options: &Options,
-    certs: &Known,
-    steps: &mut Steps<L>,
-) -> Result<Found1, JudgeFault>
-    requires { index.now ≡ repo.now.pkgs }
-    ensures answers { AnswersNamed options.now certs.now repo.now name.now result }
-    ensures counted { CountsOne result steps.old steps.new }
-{
-    let Some(judged) = find_named(repo, name, options) else {
-        return Err(JudgeFault::NoMemory);
-    };
-    answer_case(alloc, &*index, &judged, name.class, options, certs, steps)
-}
-
 /// The answer to the query of this name, which is one of those of the repository under the options. It is lowered once, and
-/// solved where no record is backed. A name of no query finds no memory.
+/// solved where no record is backed.
+#[tactic(auto, using(crate::proofs::NamedLemmas::answers_named))]
 pub fn ask_one<L: Ledger>(
     alloc: Global,
     repo: &Repo,
@@ -110,20 +118,21 @@ pub fn ask_one<L: Ledger>(
     certs: &Known,
     steps: &mut Steps<L>,
 ) -> Result<Found1, JudgeFault>
+    requires { HasNamed options.now repo.now name.now }
     ensures answers { AnswersNamed options.now certs.now repo.now name.now result }
     ensures counted { CountsOne result steps.old steps.new }
 {
-    let index = PkgIndex::new(&repo.pkgs);
-    ask_among(alloc, &index, repo, name, options, certs, steps)
+    let judged = find_named(repo, name, options);
+    answer_case(alloc, &judged, name.class, options, certs, steps)
 }
 
 // The words of what was found, if anything was.
-fn found_text(alloc: Global, flags: &[Text], found: &Option<Bits>) -> Result<Option<Text>, NoMemory>
-    ensures { IfOk result (λ text. text ≡ option_map (λ bits. joined (witness_words flags.now bits)) found.now) }
+fn found_text(alloc: Global, query: &Query, found: &Option<Bits>) -> Result<Option<Text>, NoMemory>
+    ensures { IfOk result (λ text. text ≡ option_map (λ bits. joined (witness_words query.now.flags (values_by query.now.preferred bits))) found.now) }
 {
     match found {
         None => Ok(None),
-        Some(bits) => Ok(Some(witness_of(alloc, flags, bits.items())?)),
+        Some(bits) => Ok(Some(witness_of(alloc, query, bits)?)),
     }
 }
 
@@ -160,18 +169,16 @@ fn answer_at<F: Fn(&Pkg) -> bool, L: Ledger>(
     }
 }
 
-/// The answer to the query of a package in a context.
-pub(crate) fn answer_case<'a, L: Ledger>(
+// The answer to the query of a package in a context.
+fn answer_case<L: Ledger>(
     alloc: Global,
-    index: &'a PkgIndex<'a>,
-    judged: &JudgedPkg<'a>,
+    judged: &JudgedPkg<'_>,
     class: Class,
     options: &Options,
     certs: &Known,
     steps: &mut Steps<L>,
 ) -> Result<Found1, JudgeFault>
     requires numbered { IsNumbered judged.now }
-    requires index { index.now ≡ judged.now.pkgs.now }
     requires has { has_query (case_of judged.now) class ≡ true }
     ensures answers { AnswersOne options.now.budget certs.now (query_of (case_of judged.now) class) result }
     ensures counted { CountsOne result steps.old steps.new }
@@ -179,6 +186,9 @@ pub(crate) fn answer_case<'a, L: Ledger>(
     let profile = judged.profile;
     let level = judged.level;
     let test = |pkg: &Pkg| visible(pkg, profile, level);
-    let candidates = Candidates::over(index, profile, level, test);
+    let candidates = match Candidates::new(alloc, judged.pkgs, profile, level, test) {
+        Ok(candidates) => candidates,
+        Err(NoMemory) => return Err(JudgeFault::NoMemory),
+    };
     answer_at(alloc, &candidates, judged, class, options, certs, steps)
 }

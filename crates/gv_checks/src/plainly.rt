@@ -1,50 +1,47 @@
 //! The reports that need no query.
 //!
-//! The views of the profiles are made once, or lent by `judge` and `recall`. For each package its classes are gone through
+//! For each package its classes are gone through
 //! once, and each profile that judges it costs what `unstated` costs there.
-ghost use Rattle.std.specs.Prelude.{◌≡◌, ◌++◌, Some, map, filter, flat_map, slice_get, IfOk, OnOk};
-ghost use Rattle.gv_facts.specs.Visible.{judged};
+ghost use Rattle.std.specs.Prelude.{◌≡◌, ◌++◌, None, Some, map, filter, flat_map, slice_get, IfOk, IfSome, MatchOption, OnOk};
 ghost use Rattle.gv_report.specs.Selecting.{selected};
 ghost use Rattle.gv_checks.specs.Cases.{case_in, cases_of, members_from};
-ghost use Rattle.gv_checks.specs.Context.{case_of};
+ghost use Rattle.gv_checks.specs.Context.{case_of, listed};
 ghost use Rattle.gv_checks.specs.Plain.{other_flags, told_case, told_in, told_live, told_member};
 ghost use Rattle.gv_checks.specs.RepoReports.{live, plain_reports, readable_classes};
-ghost use Rattle.gv_checks.specs.Walks.{seen};
+ghost use Rattle.gv_checks.specs.Seen.{seen};
+ghost use Rattle.gv_checks.specs.SomePackages.{plain_of};
+ghost use Rattle.gv_checks.specs.Telling.{numbered, told_at, told_of_class_at};
 
-use crate::context::JudgedPkg;
+use crate::context::{JudgedPkg, ListedPkg};
 use crate::judging::is_told;
-use crate::nonexistent::add_nonexistent;
+use crate::nonexistent::{add_nonexistent, add_nonexistent_in};
 use crate::reporting::{context_of, subject_of};
 use crate::unstated::{OtherFlags, add_unstated, other_flags};
-use crate::views::{Asked, ProfileView, all_views};
+use crate::views::ProfileView;
+use crate::walk::Walk;
 use gv_base::NoMemory;
 use gv_entry::Body;
-use gv_facts::{Level, Pkg, Profile};
+use gv_facts::{Class, Pkg, Pkgs};
 use gv_load::Repo;
 use gv_report::{Keyword, Options, Report, Reports, selected};
-use gv_visible::PkgIndex;
 use std::alloc::Global;
 
-/// `plain` over the views of the profiles.
+// `plain` over the views of the profiles.
 #[tactic(auto, using(crate::proofs::PlainLemmas::all_told))]
-pub(crate) fn plain_among(
+fn plain_over(
     alloc: Global,
+    walk: &Walk<'_>,
     repo: &Repo,
-    index: &PkgIndex<'_>,
-    views: &[ProfileView<'_>],
     options: &Options,
 ) -> Result<Reports, NoMemory>
-    requires index { index.now ≡ repo.now.pkgs }
-    requires views { views.now ≡ map (seen repo.now.pkgs) repo.now.profiles }
+    requires repo { repo.now ≡ walk.now.repo }
+    requires options { options.now ≡ walk.now.options }
     ensures { IfOk result (λ reports. reports ≡ filter (selected options.now) (plain_reports repo.now)) }
 {
     let mut reports = noted(alloc, repo, options)?;
     add_members(
         alloc,
-        options,
-        repo,
-        index,
-        views,
+        walk,
         repo.pkgs.items(),
         repo.bodies.items(),
         &mut reports,
@@ -58,16 +55,102 @@ pub(crate) fn plain_among(
 pub fn plain(alloc: Global, repo: &Repo, options: &Options) -> Result<Reports, NoMemory>
     ensures { IfOk result (λ reports. reports ≡ filter (selected options.now) (plain_reports repo.now)) }
 {
-    let index = PkgIndex::new(&repo.pkgs);
-    plain_over(alloc, repo, &index, options)
+    plain_by(alloc, &*repo, &*options)
 }
 
-/// The selected notes.
-pub(crate) fn noted(alloc: Global, repo: &Repo, options: &Options) -> Result<Reports, NoMemory>
+fn plain_by<'a>(alloc: Global, repo: &'a Repo, options: &'a Options) -> Result<Reports, NoMemory>
+    ensures { IfOk result (λ reports. reports ≡ filter (selected options.now) (plain_reports repo.now)) }
+{
+    let walk = Walk::new(alloc, repo, options)?;
+    plain_over(alloc, &walk, repo, options)
+}
+
+/// Those of them that are told of the package of this number, from 0, which has no notes; of a number that no package has, none.
+pub fn plain_one(
+    alloc: Global,
+    repo: &Repo,
+    package: u32,
+    options: &Options,
+) -> Result<Reports, NoMemory>
+    ensures { IfOk result (λ reports. reports ≡ filter (selected options.now) (plain_of repo.now «package»)) }
+{
+    plain_one_by(alloc, &*repo, package, &*options)
+}
+
+#[tactic(auto, using(crate::proofs::PackagesLemmas::plain_told))]
+fn plain_one_by<'a>(
+    alloc: Global,
+    repo: &'a Repo,
+    package: u32,
+    options: &'a Options,
+) -> Result<Reports, NoMemory>
+    ensures { IfOk result (λ reports. reports ≡ filter (selected options.now) (plain_of repo.now «package»)) }
+{
+    let walk = Walk::few(alloc, repo, options)?;
+    let mut reports = Reports::new(alloc);
+    walk.tell(alloc, package, &mut reports)?;
+    Ok(reports)
+}
+
+impl<'a> Walk<'a> {
+    /// Adds what is told of the package of this number, from 0, without a query; where there is none, nothing.
+    pub fn tell(&self, alloc: Global, number: u32, reports: &mut Reports) -> Result<(), NoMemory>
+        ensures { OnOk result (reports.new ≡ reports.old ++ told_at self.now.options self.now.repo number) }
+    {
+        match numbered(self.repo(), number) {
+            Some(one) => add_member(alloc, self, &one, reports),
+            None => Ok(()),
+        }
+    }
+
+    /// Adds of that only which atoms of this class match no package.
+    pub fn tell_of_class(
+        &self,
+        alloc: Global,
+        number: u32,
+        class: Class,
+        reports: &mut Reports,
+    ) -> Result<(), NoMemory>
+        ensures { OnOk result (reports.new ≡ reports.old ++ told_of_class_at class self.now.options self.now.repo number) }
+    {
+        let repo = self.repo();
+        match numbered(repo, number) {
+            Some(one) => {
+                add_nonexistent_in(alloc, self.options(), &one, &repo.pkgs, class, reports)
+            }
+            None => Ok(()),
+        }
+    }
+}
+
+// The package of this number.
+fn numbered(repo: &Repo, number: u32) -> Option<ListedPkg<'_>>
+    ensures member { MatchOption result (numbered repo.now number ≡ None) (λ one. numbered repo.now number ≡ Some (listed one)) }
+    ensures pkg { IfSome result (λ one. slice_get repo.now.pkgs one.number ≡ Some one.pkg.now) }
+{
+    let place = number as usize;
+    let Some(pkg) = repo.pkgs.items().get(place) else {
+        return None;
+    };
+    let Some(body) = repo.bodies.items().get(place) else {
+        return None;
+    };
+    Some(ListedPkg { number, pkg, body })
+}
+
+/// The notes of reading that are selected.
+pub fn noted(alloc: Global, repo: &Repo, options: &Options) -> Result<Reports, NoMemory>
     ensures { IfOk result (λ reports. reports ≡ filter (selected options.now) repo.now.notes) }
 {
+    selected_of(alloc, repo.notes.items(), options)
+}
+
+/// Those of the reports that are selected.
+pub fn selected_of(alloc: Global, others: &[Report], options: &Options) -> Result<Reports, NoMemory>
+    ensures { IfOk result (λ reports. reports ≡ filter (selected options.now) others.now) }
+{
     let mut reports = Reports::new(alloc);
-    add_selected(alloc, options, repo.notes.items(), &mut reports)?;
+    add_selected(alloc, options, others, &mut reports)?;
     Ok(reports)
 }
 
@@ -133,29 +216,27 @@ fn add_case(
 fn add_judged(
     alloc: Global,
     options: &Options,
-    repo: &Repo,
-    profile: &Profile,
-    level: Option<Level>,
-    number: u32,
-    pkg: &Pkg,
-    body: &Body,
+    pkgs: &Pkgs,
+    view: &ProfileView<'_>,
+    one: &ListedPkg<'_>,
     others: &[OtherFlags],
     reports: &mut Reports,
 ) -> Result<(), NoMemory>
-    requires level { level ≡ judged pkg.now profile.now }
-    requires others { others.now ≡ map (other_flags pkg.now body.now) (readable_classes pkg.now body.now) }
-    ensures { OnOk result (reports.new ≡ reports.old ++ told_in options.now (case_in repo.now.pkgs (record { number = number; pkg = pkg.now; body = body.now }) profile.now)) }
+    requires view { view.now ≡ seen pkgs.now view.now.profile }
+    requires numbered { slice_get pkgs.now one.now.number ≡ Some one.now.pkg.now }
+    requires others { others.now ≡ map (other_flags one.now.pkg.now one.now.body.now) (readable_classes one.now.pkg.now one.now.body.now) }
+    ensures { OnOk result (reports.new ≡ reports.old ++ told_in options.now (case_in pkgs.now (listed one.now) view.now.profile)) }
 {
-    match level {
+    match view.judged(one.number, one.pkg) {
         None => Ok(()),
         Some(level) => {
             let judged = JudgedPkg {
-                number,
-                pkg,
-                body,
-                profile,
+                number: one.number,
+                pkg: one.pkg,
+                body: one.body,
+                profile: view.profile(),
                 level,
-                pkgs: &repo.pkgs,
+                pkgs,
             };
             add_case(alloc, options, &judged, others, reports)
         }
@@ -168,73 +249,68 @@ fn add_cases(
     options: &Options,
     repo: &Repo,
     views: &[ProfileView<'_>],
-    number: u32,
-    pkg: &Pkg,
-    body: &Body,
+    one: &ListedPkg<'_>,
     others: &[OtherFlags],
     reports: &mut Reports,
 ) -> Result<(), NoMemory>
     requires views { views.now ≡ map (seen repo.now.pkgs) repo.now.profiles }
-    requires numbered { slice_get repo.now.pkgs number ≡ Some pkg.now }
-    requires others { others.now ≡ map (other_flags pkg.now body.now) (readable_classes pkg.now body.now) }
-    ensures { OnOk result (reports.new ≡ reports.old ++ flat_map (told_case options.now) (cases_of repo.now (record { number = number; pkg = pkg.now; body = body.now }))) }
+    requires numbered { slice_get repo.now.pkgs one.now.number ≡ Some one.now.pkg.now }
+    requires others { others.now ≡ map (other_flags one.now.pkg.now one.now.body.now) (readable_classes one.now.pkg.now one.now.body.now) }
+    ensures { OnOk result (reports.new ≡ reports.old ++ flat_map (told_case options.now) (cases_of repo.now (listed one.now))) }
 {
     for view in views {
-        let level = view.judged(number, pkg);
-        add_judged(
-            alloc,
-            options,
-            repo,
-            view.profile(),
-            level,
-            number,
-            pkg,
-            body,
-            others,
-            reports,
-        )?;
+        add_judged(alloc, options, &repo.pkgs, view, one, others, reports)?;
     }
     Ok(())
+}
+
+// Adds those of a package over these views.
+fn add_told(
+    alloc: Global,
+    options: &Options,
+    repo: &Repo,
+    views: &[ProfileView<'_>],
+    one: &ListedPkg<'_>,
+    reports: &mut Reports,
+) -> Result<(), NoMemory>
+    requires views { views.now ≡ map (seen repo.now.pkgs) repo.now.profiles }
+    requires numbered { slice_get repo.now.pkgs one.now.number ≡ Some one.now.pkg.now }
+    ensures { OnOk result (reports.new ≡ reports.old ++ told_member options.now repo.now (listed one.now)) }
+{
+    add_nonexistent(alloc, options, &repo.pkgs, one.pkg, one.body, reports)?;
+    let others = other_flags(alloc, one.pkg, one.body)?;
+    add_cases(alloc, options, repo, views, one, &others, reports)
 }
 
 /// Adds those of a package.
 pub(crate) fn add_member(
     alloc: Global,
-    options: &Options,
-    repo: &Repo,
-    index: &PkgIndex<'_>,
-    views: &[ProfileView<'_>],
-    number: u32,
-    pkg: &Pkg,
-    body: &Body,
+    walk: &Walk<'_>,
+    one: &ListedPkg<'_>,
     reports: &mut Reports,
 ) -> Result<(), NoMemory>
-    requires index { index.now ≡ repo.now.pkgs }
-    requires views { views.now ≡ map (seen repo.now.pkgs) repo.now.profiles }
-    requires numbered { slice_get repo.now.pkgs number ≡ Some pkg.now }
-    ensures { OnOk result (reports.new ≡ reports.old ++ told_member options.now repo.now (record { number = number; pkg = pkg.now; body = body.now })) }
+    requires numbered { slice_get walk.now.repo.pkgs one.now.number ≡ Some one.now.pkg.now }
+    ensures { OnOk result (reports.new ≡ reports.old ++ told_member walk.now.options walk.now.repo (listed one.now)) }
 {
-    add_nonexistent(alloc, options, index, pkg, body, reports)?;
-    let others = other_flags(alloc, pkg, body)?;
-    add_cases(
-        alloc, options, repo, views, number, pkg, body, &others, reports,
+    add_told(
+        alloc,
+        walk.options(),
+        walk.repo(),
+        walk.views(),
+        one,
+        reports,
     )
 }
 
 fn add_members(
     alloc: Global,
-    options: &Options,
-    repo: &Repo,
-    index: &PkgIndex<'_>,
-    views: &[ProfileView<'_>],
+    walk: &Walk<'_>,
     pkgs: &[Pkg],
     bodies: &[Body],
     reports: &mut Reports,
 ) -> Result<(), NoMemory>
-    requires index { index.now ≡ repo.now.pkgs }
-    requires views { views.now ≡ map (seen repo.now.pkgs) repo.now.profiles }
-    requires pkgs { pkgs.now ≡ repo.now.pkgs }
-    ensures { OnOk result (reports.new ≡ reports.old ++ flat_map (told_member options.now repo.now) (members_from 0 pkgs.now bodies.now)) }
+    requires pkgs { pkgs.now ≡ walk.now.repo.pkgs }
+    ensures { OnOk result (reports.new ≡ reports.old ++ flat_map (told_member walk.now.options walk.now.repo) (members_from 0 pkgs.now bodies.now)) }
 {
     for (i, pkg) in pkgs.iter().enumerate() {
         if i >= bodies.len() {
@@ -243,34 +319,12 @@ fn add_members(
         let Ok(number) = u32::try_from(i) else {
             return Err(NoMemory);
         };
-        add_member(
-            alloc, options, repo, index, views, number, pkg, &bodies[i], reports,
-        )?;
+        let one = ListedPkg {
+            number,
+            pkg,
+            body: &bodies[i],
+        };
+        add_member(alloc, walk, &one, reports)?;
     }
     Ok(())
-}
-
-fn plain_indexed<'a>(
-    alloc: Global,
-    repo: &'a Repo,
-    index: &'a PkgIndex<'a>,
-    options: &Options,
-) -> Result<Reports, NoMemory>
-    requires { index.now ≡ repo.now.pkgs }
-    ensures { IfOk result (λ reports. reports ≡ filter (selected options.now) (plain_reports repo.now)) }
-{
-    let views = all_views(alloc, index, repo.profiles.items(), Asked::Many)?;
-    plain_among(alloc, repo, index, &views, options)
-}
-
-fn plain_over(
-    alloc: Global,
-    repo: &Repo,
-    index: &PkgIndex<'_>,
-    options: &Options,
-) -> Result<Reports, NoMemory>
-    requires { index.now ≡ repo.now.pkgs }
-    ensures { IfOk result (λ reports. reports ≡ filter (selected options.now) (plain_reports repo.now)) }
-{
-    plain_indexed(alloc, &*repo, &*index, options)
 }

@@ -2,24 +2,23 @@
 //!
 //! It costs what `judge` costs, but no solving: each distinct query is looked for by its bytes once, and its records are
 //! checked up to the first that is backed.
-ghost use Rattle.std.specs.Prelude.{◌≡◌, List};
+ghost use Rattle.std.specs.Prelude.{◌≡◌, List, length};
 ghost use Rattle.gv_cert.specs.Known.{KnownRecord};
+ghost use Rattle.gv_checks.specs.Certs.{CountsAtMost};
 ghost use Rattle.gv_checks.specs.Progress.{Stops};
-ghost use Rattle.gv_checks.specs.Queries.{Query};
+ghost use Rattle.gv_checks.specs.Queries.{Query, queries};
 ghost use Rattle.gv_checks.specs.Recalled.{NotRecalls, Recalls};
 
 use crate::JudgeFault;
-use crate::judging::{Progress, next_number};
-use crate::plainly::noted;
-use crate::used::Used;
-use crate::views::{Asked, all_views};
-use crate::walking::judge_all;
+use crate::chosen::{Asking, Chosen};
+use crate::judging::next_number;
+use crate::walk::Walk;
+use crate::walking::{Answers, Stopped};
+use crate::whole::all_reports;
 use gv_base::{Ledger, NoMemory, Steps, Text};
 use gv_cert::Known;
 use gv_load::Repo;
-use gv_report::{Options, Reports, ordered};
-use gv_usestate::RuledFlags;
-use gv_visible::PkgIndex;
+use gv_report::{Options, Reports};
 use std::alloc::Global;
 
 /// What the records say of a repository.
@@ -27,6 +26,8 @@ use std::alloc::Global;
 pub struct Recalled {
     /// In order.
     pub reports: Reports,
+    /// For each distinct query its first backed record, in the order of first use.
+    pub certs: Known,
     /// The number of queries.
     pub queries: u32,
 }
@@ -53,8 +54,9 @@ impl From<NoMemory> for RecallFault {
     }
 }
 
-/// The reports of a scan, in order, equal ones once, where each query has a backed record among the given ones. Each query is
-/// lowered at most once and none is solved. The first query that is past a limit, or has no backed record, ends it.
+/// The reports of a scan, in order, equal ones once, and for each distinct query the first of its records that is backed, where each
+/// has one among the given ones. Whatever it answers, no more are lowered than there are queries, and none is solved. The first query
+/// that is past a limit, or has no backed record, ends it.
 pub fn recall<L: Ledger>(
     alloc: Global,
     repo: &Repo,
@@ -63,11 +65,10 @@ pub fn recall<L: Ledger>(
     steps: &mut Steps<L>,
 ) -> Result<Recalled, RecallFault>
     ensures recalls { Recalls options.now certs.now repo.now result }
+    ensures few { CountsAtMost (length (queries options.now repo.now)) steps.old steps.new }
     ensures unsolved { steps.new.solve ≡ steps.old.solve }
 {
-    let index = PkgIndex::new(&repo.pkgs);
-    let ruled = RuledFlags::new(alloc, repo.profiles.items())?;
-    recall_over(alloc, repo, &index, &ruled, options, certs, steps)
+    recall_by(alloc, &*repo, &*options, &*certs, steps)
 }
 
 // Why no more than these many queries are recalled.
@@ -85,66 +86,36 @@ fn fault_behind(fault: JudgeFault, queries: u32) -> RecallFault
     }
 }
 
-fn recall_indexed<'a, L: Ledger>(
+fn recall_by<'a, L: Ledger>(
     alloc: Global,
     repo: &'a Repo,
-    index: &'a PkgIndex<'a>,
-    ruled: &RuledFlags<'_>,
-    options: &Options,
-    certs: &Known,
+    options: &'a Options,
+    certs: &'a Known,
     steps: &mut Steps<L>,
 ) -> Result<Recalled, RecallFault>
-    requires index { index.now ≡ repo.now.pkgs }
-    requires ruled { ruled.now ≡ repo.now.profiles }
     ensures recalls { Recalls options.now certs.now repo.now result }
+    ensures few { CountsAtMost (length (queries options.now repo.now)) steps.old steps.new }
     ensures unsolved { steps.new.solve ≡ steps.old.solve }
 {
-    let views = all_views(alloc, index, repo.profiles.items(), Asked::Many)?;
-    let mut plain = noted(alloc, repo, options)?;
-    let mut progress = Progress {
-        used: Used::new(alloc),
-        reports: Reports::new(alloc),
-        queries: 0,
+    let walk = Walk::new(alloc, repo, options)?;
+    let asking = Asking {
+        chosen: Chosen::All,
+        budget: 0,
+        given: certs,
     };
-    match judge_all(
-        alloc,
-        repo,
-        &*index,
-        ruled,
-        &views,
-        options,
-        0,
-        certs,
-        &mut plain,
-        &mut progress,
-        steps,
-    ) {
-        Ok(()) => {}
-        Err(fault) => return Err(fault_behind(fault, progress.queries)),
-    }
-    let Progress {
-        used: _,
+    let Answers {
+        plain,
         reports: asked,
+        certs,
         queries,
-    } = progress;
-    plain.append(asked)?;
-    let reports = ordered(alloc, plain)?;
-    Ok(Recalled { reports, queries })
-}
-
-fn recall_over<L: Ledger>(
-    alloc: Global,
-    repo: &Repo,
-    index: &PkgIndex<'_>,
-    ruled: &RuledFlags<'_>,
-    options: &Options,
-    certs: &Known,
-    steps: &mut Steps<L>,
-) -> Result<Recalled, RecallFault>
-    requires index { index.now ≡ repo.now.pkgs }
-    requires ruled { ruled.now ≡ repo.now.profiles }
-    ensures recalls { Recalls options.now certs.now repo.now result }
-    ensures unsolved { steps.new.solve ≡ steps.old.solve }
-{
-    recall_indexed(alloc, &*repo, &*index, ruled, options, certs, steps)
+    } = match walk.judge(alloc, &asking, steps) {
+        Ok(answers) => answers,
+        Err(Stopped { fault, behind }) => return Err(fault_behind(fault, behind)),
+    };
+    let reports = all_reports(alloc, repo, options, plain, asked)?;
+    Ok(Recalled {
+        reports,
+        certs,
+        queries,
+    })
 }

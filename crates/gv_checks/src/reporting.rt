@@ -4,12 +4,13 @@
 ghost use Rattle.std.specs.Prelude.{◌≡◌, ◌++◌, [], true, codes, if◌then◌else◌, option_map, unwrap_or, map, slice_get, length, Some, None, IfOk};
 ghost use Rattle.gv_base.specs.Words.{joined};
 ghost use Rattle.gv_expr.specs.DepGrammar.{item_text};
+ghost use Rattle.gv_entry.specs.Allowed.{turned, values_by};
 ghost use Rattle.gv_entry.specs.declared.entry.Body.{Body};
 ghost use Rattle.gv_logic.specs.Circuits.{at, values};
 ghost use Rattle.gv_logic.specs.Literals.{lit_true};
 ghost use Rattle.gv_lower.specs.Lowering.{IsQuery};
 ghost use Rattle.gv_checks.specs.Context.{case_of};
-ghost use Rattle.gv_checks.specs.Queries.{class_of, context_of, flags_of, gates_of, has_query, items_of, least_of, query_of, required_of};
+ghost use Rattle.gv_checks.specs.Queries.{class_of, context_of, flags_of, gates_of, has_query, items_of, least_of, preferred_of, query_of, required_of};
 ghost use Rattle.gv_checks.specs.RepoReports.{failing_text, nonsolvable, query_report, subject_of, unsatisfiable, witness_of, witness_words};
 ghost use Rattle.gv_checks.specs.Unmet.{FoundUnmet, first_off};
 
@@ -48,11 +49,12 @@ pub(crate) fn context_of(alloc: Global, judged: &JudgedPkg<'_>) -> Result<Contex
     })
 }
 
-/// The words of the flags with these bits, joined by one space.
-pub(crate) fn witness_of(alloc: Global, flags: &[Text], bits: &[bool]) -> Result<Text, NoMemory>
-    ensures { IfOk result (λ text. text ≡ joined (witness_words flags.now bits.now)) }
+/// The words of the query's flags with these bits, joined by one space.
+pub(crate) fn witness_of(alloc: Global, query: &Query, bits: &Bits) -> Result<Text, NoMemory>
+    ensures { IfOk result (λ text. text ≡ joined (witness_words query.now.flags (values_by query.now.preferred bits.now))) }
 {
-    let words = witness_words(alloc, flags, bits)?;
+    let values = values_by(alloc, query.preferred.items(), bits.items())?;
+    let words = witness_words(alloc, query.flags.items(), values.items())?;
     words.joined(alloc, b' ')
 }
 
@@ -64,7 +66,7 @@ pub(crate) fn report_of(
     query: &Query,
     found: &Option<Bits>,
 ) -> Result<Option<Report>, NoMemory>
-    requires lowered { IsQuery (gates_of (query_of (case_of judged.now) class)) (flags_of (query_of (case_of judged.now) class)) (items_of (query_of (case_of judged.now) class)) query.now }
+    requires lowered { IsQuery (gates_of (query_of (case_of judged.now) class)) (flags_of (query_of (case_of judged.now) class)) (items_of (query_of (case_of judged.now) class)) (preferred_of (query_of (case_of judged.now) class)) query.now }
     requires found { found.now ≡ least_of (query_of (case_of judged.now) class) }
     ensures { IfOk result (λ report. report ≡ query_report (query_of (case_of judged.now) class)) }
 {
@@ -93,17 +95,38 @@ fn witness_word(alloc: Global, flag: &Text, on: bool) -> Result<Text, NoMemory>
 }
 
 #[tactic(auto, using(crate::proofs::WitnessLemmas::next_word, crate::proofs::WitnessLemmas::no_words))]
-fn witness_words(alloc: Global, flags: &[Text], bits: &[bool]) -> Result<Texts, NoMemory>
-    ensures { IfOk result (λ words. words ≡ witness_words flags.now bits.now) }
+fn witness_words(alloc: Global, flags: &[Text], values: &[bool]) -> Result<Texts, NoMemory>
+    ensures { IfOk result (λ words. words ≡ witness_words flags.now values.now) }
 {
     let mut words = Texts::new(alloc);
     for (i, flag) in flags.iter().enumerate() {
-        if i >= bits.len() {
+        if i >= values.len() {
             return Ok(words);
         }
-        words.add(witness_word(alloc, flag, bits[i])?)?;
+        words.add(witness_word(alloc, flag, values[i])?)?;
     }
     Ok(words)
+}
+
+// A value by its bit, which says that it isn't the preferred one.
+fn turned(preferred: bool, bit: bool) -> bool
+    ensures { result ≡ turned preferred bit }
+{
+    if preferred { !bit } else { bit }
+}
+
+#[tactic(auto, using(crate::proofs::WitnessLemmas::next_value))]
+fn values_by(alloc: Global, preferred: &[bool], bits: &[bool]) -> Result<Bits, NoMemory>
+    ensures { IfOk result (λ values. values ≡ values_by preferred.now bits.now) }
+{
+    let mut values = Bits::new(alloc);
+    for (i, on) in preferred.iter().enumerate() {
+        if i >= bits.len() {
+            return Ok(values);
+        }
+        values.add(turned(*on, bits[i]))?;
+    }
+    Ok(values)
 }
 
 fn is_true(places: &[bool], lit: Lit) -> bool
@@ -174,7 +197,7 @@ fn failing_text(
     bits: &Bits,
 ) -> Result<Text, NoMemory>
     requires class { class_of (query_of (case_of judged.now) class) ≡ Some dep.now }
-    requires lowered { IsQuery (gates_of (query_of (case_of judged.now) class)) (flags_of (query_of (case_of judged.now) class)) (items_of (query_of (case_of judged.now) class)) query.now }
+    requires lowered { IsQuery (gates_of (query_of (case_of judged.now) class)) (flags_of (query_of (case_of judged.now) class)) (items_of (query_of (case_of judged.now) class)) (preferred_of (query_of (case_of judged.now) class)) query.now }
     requires long { length bits.now ≡ length (flags_of (query_of (case_of judged.now) class)) }
     ensures { IfOk result (λ text. text ≡ failing_text (query_of (case_of judged.now) class) dep.now bits.now) }
 {
@@ -194,7 +217,7 @@ fn nonsolvable(
     bits: &Bits,
 ) -> Result<Report, NoMemory>
     requires class { class_of (query_of (case_of judged.now) class) ≡ Some dep.now }
-    requires lowered { IsQuery (gates_of (query_of (case_of judged.now) class)) (flags_of (query_of (case_of judged.now) class)) (items_of (query_of (case_of judged.now) class)) query.now }
+    requires lowered { IsQuery (gates_of (query_of (case_of judged.now) class)) (flags_of (query_of (case_of judged.now) class)) (items_of (query_of (case_of judged.now) class)) (preferred_of (query_of (case_of judged.now) class)) query.now }
     requires long { length bits.now ≡ length (flags_of (query_of (case_of judged.now) class)) }
     ensures { IfOk result (λ report. report ≡ nonsolvable (query_of (case_of judged.now) class) dep.now bits.now) }
 {
@@ -203,7 +226,7 @@ fn nonsolvable(
         keyword: class_keyword(judged.profile.status),
         class: Some(class),
         context: Some(context_of(alloc, judged)?),
-        witness: Some(witness_of(alloc, query.flags.items(), bits.items())?),
+        witness: Some(witness_of(alloc, query, bits)?),
         detail: Some(failing_text(alloc, judged, class, dep, query, bits)?),
     })
 }

@@ -15,18 +15,17 @@ ghost use Rattle.gv_checks.specs.Context.{AreAround, case_of};
 ghost use Rattle.gv_checks.specs.Keys.{ArePartsOf};
 ghost use Rattle.gv_checks.specs.Limits.{Cause};
 ghost use Rattle.gv_checks.specs.Queries.{has_query, query_of};
+ghost use Rattle.gv_checks.specs.Seen.{seen};
 ghost use Rattle.gv_checks.specs.Shared.{AreHere, ArePlaced, AreReady, AreShared, IsAnsweredAt, IsKeptAs, IsSharedAt, Keeps, MayLower, StayNoted, key_of};
 ghost use Rattle.gv_checks.specs.declared.context.JudgedPkg.{JudgedPkg};
 
 use crate::JudgeFault;
-use crate::context::JudgedPkg;
+use crate::context::{JudgedPkg, Spot};
 use crate::judging::lowered;
-use crate::keys::PkgSites;
 use gv_base::{Ledger, NoMemory, Steps, Text};
 use gv_facts::{Class, Pkg};
 use gv_logic::gate_bytes;
 use gv_lower::{Query, key_law};
-use gv_usestate::ProfileStates;
 use gv_visible::Candidates;
 use std::alloc::Global;
 
@@ -57,6 +56,8 @@ pub(crate) struct Placed {
 #[derive(Drop)]
 pub(crate) struct Shared {
     pub(crate) queries: Vec<SharedQuery>,
+    // The key of REQUIRED_USE in the present context.
+    pub(crate) required: Vec<u8>,
     // The key that was made last.
     pub(crate) key: Vec<u8>,
     // Where those of the present context stand, as far as it is known.
@@ -76,6 +77,7 @@ impl Shared {
     {
         Shared {
             queries: Vec::new(alloc),
+            required: Vec::new(alloc),
             key: Vec::new(alloc),
             here: Vec::new(alloc),
         }
@@ -85,6 +87,7 @@ impl Shared {
     pub(crate) fn begin(&mut self)
         ensures queries { self.new.queries.items ≡ self.old.queries.items }
         ensures here { self.new.here.items ≡ [] }
+        ensures required { self.new.required.items ≡ self.old.required.items }
     {
         self.here.clear();
     }
@@ -117,6 +120,7 @@ impl Shared {
     fn make_room(&mut self)
         ensures queries { (self.new.queries.items ≡ self.old.queries.items) ⊎ (self.new.queries.items ≡ []) }
         ensures key { self.new.key ≡ self.old.key }
+        ensures required { self.new.required.items ≡ self.old.required.items }
         ensures here { self.new.here.items ≡ [] }
     {
         self.here.clear();
@@ -129,6 +133,7 @@ impl Shared {
     fn keep(&mut self, alloc: Global, class: Class, query: Query) -> Result<usize, NoMemory>
         ensures keeps { IfOk result (Keeps class self.old.key.items query self.old.queries.items self.new.queries.items) }
         ensures here { self.new.here.items ≡ [] }
+        ensures required { self.new.required.items ≡ self.old.required.items }
     {
         self.make_room();
         let key = Text::of(alloc, &self.key)?;
@@ -164,6 +169,7 @@ impl Shared {
         ensures noted { IfOk result (λ _. StayNoted self.old.queries.items self.new.queries.items) }
         ensures refused { IfErr result (λ fault. (budget : ℕ) (given : List KnownRecord) → Cause budget given (query_of (case_of judged.now) class) fault) }
         ensures steps { steps.new ≡ after Lower steps.old }
+        ensures required { self.new.required.items ≡ self.old.required.items }
     {
         let query = match lowered(alloc, candidates, judged, class, steps) {
             Ok(query) => query,
@@ -180,27 +186,34 @@ impl Shared {
         &mut self,
         alloc: Global,
         candidates: &Candidates<'_, F>,
-        judged: &JudgedPkg<'_>,
+        spot: &Spot<'_>,
         class: Class,
-        states: &ProfileStates<'_>,
-        sites: &PkgSites<'_>,
-        required: &[u8],
         steps: &mut Steps<L>,
     ) -> Result<usize, JudgeFault>
-        requires parts { ArePartsOf judged.now states.now sites.now required.now }
-        requires around { AreAround (F.pre (test_of candidates.now)) (F.post (test_of candidates.now)) candidates.now judged.now }
-        requires has { has_query (case_of judged.now) class ≡ true }
-        requires here { AreHere judged.now self.old }
-        ensures at { IfOk result (IsSharedAt (query_of (case_of judged.now) class) self.new.queries.items) }
-        ensures here { IfOk result (λ _. AreHere judged.now self.new) }
+        requires parts { ArePartsOf spot.now.judged spot.now.judged.profile.now spot.now.sites.now self.old.required.items }
+        requires view { spot.now.view.now ≡ seen spot.now.judged.pkgs.now spot.now.judged.profile.now }
+        requires around { AreAround (F.pre (test_of candidates.now)) (F.post (test_of candidates.now)) candidates.now spot.now.judged }
+        requires has { has_query (case_of spot.now.judged) class ≡ true }
+        requires here { AreHere spot.now.judged self.old }
+        ensures at { IfOk result (IsSharedAt (query_of (case_of spot.now.judged) class) self.new.queries.items) }
+        ensures here { IfOk result (λ _. AreHere spot.now.judged self.new) }
         ensures noted { IfOk result (λ _. StayNoted self.old.queries.items self.new.queries.items) }
-        ensures refused { IfErr result (λ fault. (budget : ℕ) (given : List KnownRecord) → Cause budget given (query_of (case_of judged.now) class) fault) }
+        ensures refused { IfErr result (λ fault. (budget : ℕ) (given : List KnownRecord) → Cause budget given (query_of (case_of spot.now.judged) class) fault) }
         ensures steps { MayLower steps.old steps.new }
+        ensures required { self.new.required.items ≡ self.old.required.items }
     {
         key_law();
-        let first = sites.first(class);
+        let judged = &spot.judged;
+        let first = spot.sites.first(class);
         self.key.clear();
-        match sites.add_key(candidates, judged, class, states, required, &mut self.key) {
+        match spot.sites.add_key(
+            candidates,
+            judged,
+            class,
+            spot.view.states(),
+            &self.required,
+            &mut self.key,
+        ) {
             Ok(()) => {}
             Err(NoMemory) => return Err(JudgeFault::NoMemory),
         }
@@ -212,6 +225,7 @@ impl Shared {
 
     // Notes where the query of a class in the present context stands.
     fn add_here(&mut self, class: Class, at: usize) -> Result<(), NoMemory>
+        ensures required { self.new.required.items ≡ self.old.required.items }
         ensures queries { self.new.queries.items ≡ self.old.queries.items }
         ensures here { IfOk result (λ _. self.new.here.items ≡ self.old.here.items ++ record { class = class; at = at } ∷ []) }
     {
@@ -224,30 +238,27 @@ impl Shared {
         &mut self,
         alloc: Global,
         candidates: &Candidates<'_, F>,
-        judged: &JudgedPkg<'_>,
+        spot: &Spot<'_>,
         class: Class,
-        states: &ProfileStates<'_>,
-        sites: &PkgSites<'_>,
-        required: &[u8],
         steps: &mut Steps<L>,
     ) -> Result<usize, JudgeFault>
-        requires parts { ArePartsOf judged.now states.now sites.now required.now }
-        requires around { AreAround (F.pre (test_of candidates.now)) (F.post (test_of candidates.now)) candidates.now judged.now }
-        requires has { has_query (case_of judged.now) class ≡ true }
-        requires here { AreHere judged.now self.old }
-        ensures at { IfOk result (IsSharedAt (query_of (case_of judged.now) class) self.new.queries.items) }
-        ensures here { IfOk result (λ _. AreHere judged.now self.new) }
+        requires parts { ArePartsOf spot.now.judged spot.now.judged.profile.now spot.now.sites.now self.old.required.items }
+        requires view { spot.now.view.now ≡ seen spot.now.judged.pkgs.now spot.now.judged.profile.now }
+        requires around { AreAround (F.pre (test_of candidates.now)) (F.post (test_of candidates.now)) candidates.now spot.now.judged }
+        requires has { has_query (case_of spot.now.judged) class ≡ true }
+        requires here { AreHere spot.now.judged self.old }
+        ensures at { IfOk result (IsSharedAt (query_of (case_of spot.now.judged) class) self.new.queries.items) }
+        ensures here { IfOk result (λ _. AreHere spot.now.judged self.new) }
         ensures noted { IfOk result (λ _. StayNoted self.old.queries.items self.new.queries.items) }
-        ensures refused { IfErr result (λ fault. (budget : ℕ) (given : List KnownRecord) → Cause budget given (query_of (case_of judged.now) class) fault) }
+        ensures refused { IfErr result (λ fault. (budget : ℕ) (given : List KnownRecord) → Cause budget given (query_of (case_of spot.now.judged) class) fault) }
         ensures steps { MayLower steps.old steps.new }
+        ensures required { self.new.required.items ≡ self.old.required.items }
     {
-        let first = sites.first(class);
+        let first = spot.sites.first(class);
         if let Some(at) = self.find_here(first) {
             return Ok(at);
         }
-        match self.seek(
-            alloc, candidates, judged, class, states, sites, required, steps,
-        ) {
+        match self.seek(alloc, candidates, spot, class, steps) {
             Ok(at) => match self.add_here(first, at) {
                 Ok(()) => Ok(at),
                 Err(NoMemory) => Err(JudgeFault::NoMemory),
@@ -258,7 +269,8 @@ impl Shared {
 
     /// Notes where the answer of the query at a place stands.
     pub(crate) fn note(&mut self, at: usize, place: usize)
-        ensures { (judged : JudgedPkg) (certs : List KnownRecord) → AreReady judged certs self.old → IsAnsweredAt certs self.old.queries.items at place → AreReady judged certs self.new }
+        ensures notes { (judged : JudgedPkg) (certs : List KnownRecord) → AreReady judged certs self.old → IsAnsweredAt certs self.old.queries.items at place → AreReady judged certs self.new }
+        ensures required { self.new.required.items ≡ self.old.required.items }
     {
         match self.queries.get_mut(at) {
             Some(kept) => kept.place = Some(place),

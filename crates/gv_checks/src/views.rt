@@ -7,12 +7,12 @@ ghost use Rattle.std.specs.Prelude.{◌≡◌, map, Some, slice_get, IfOk, IfSom
 ghost use Rattle.gv_facts.specs.Visible.{judged};
 ghost use Rattle.gv_visible.specs.Candidates.{level_of, pkgs_of, profile_of, test_of};
 ghost use Rattle.gv_visible.specs.StoredTest.{AnswersVisible};
-ghost use Rattle.gv_checks.specs.Walks.{seen};
+ghost use Rattle.gv_checks.specs.Seen.{seen};
 
 use gv_base::NoMemory;
-use gv_facts::{Level, Pkg, Profile};
+use gv_facts::{Level, Pkg, Pkgs, Profile};
 use gv_usestate::{ProfileStates, RuledFlags};
-use gv_visible::{Candidates, PkgIndex, VisiblePkgs, judged};
+use gv_visible::{Candidates, VisiblePkgs, judged};
 use std::alloc::Global;
 use std::marker::Model;
 
@@ -26,7 +26,7 @@ pub(crate) enum Asked {
 /// A profile with the states of flags in it and, where it is asked about many packages, what it shows of them.
 #[derive(Drop)]
 pub(crate) struct ProfileView<'a> {
-    index: &'a PkgIndex<'a>,
+    pkgs: &'a Pkgs,
     profile: &'a Profile,
     states: ProfileStates<'a>,
     shown: Option<VisiblePkgs<'a>>,
@@ -34,29 +34,29 @@ pub(crate) struct ProfileView<'a> {
 
 impl<'a> Model for ProfileView<'a> {
     ghost use Rattle.gv_checks.specs.Views.{HasParts};
-    ghost use Rattle.gv_checks.specs.Walks.{seen};
+    ghost use Rattle.gv_checks.specs.Seen.{seen};
     ghost use Rattle.gv_visible.specs.Candidates.{VisiblePkgs};
 
     ghost Value = { VisiblePkgs };
 
-    ghost view = { λ v. seen v.index.now v.profile.now };
+    ghost view = { λ v. seen v.pkgs.now v.profile.now };
 
-    ghost invariant = { λ v. HasParts v.index.now v.profile.now v.states v.shown };
+    ghost invariant = { λ v. HasParts v.pkgs.now v.profile.now v.states v.shown };
 }
 
 impl<'a> ProfileView<'a> {
     fn new(
         alloc: Global,
-        index: &'a PkgIndex<'a>,
+        pkgs: &'a Pkgs,
         profile: &'a Profile,
         asked: Asked,
     ) -> Result<ProfileView<'a>, NoMemory>
-        ensures { IfOk result (λ view. view ≡ seen index.now profile.now) }
+        ensures { IfOk result (λ view. view ≡ seen pkgs.now profile.now) }
     {
         let states = states(alloc, profile, asked)?;
-        let shown = shown(alloc, index, profile, asked)?;
+        let shown = shown(alloc, pkgs, profile, asked)?;
         Ok(ProfileView {
-            index,
+            pkgs,
             profile,
             states,
             shown,
@@ -66,18 +66,19 @@ impl<'a> ProfileView<'a> {
     /// The packages as candidates in the profile at this level. The test answers `visible` there.
     pub(crate) fn candidates<F: Fn(&Pkg) -> bool>(
         &'a self,
+        alloc: Global,
         level: Level,
         test: F,
-    ) -> Candidates<'a, F>
+    ) -> Result<Candidates<'a, F>, NoMemory>
         requires test { AnswersVisible (F.pre test) (F.post test) self.now.profile level }
-        ensures pkgs { pkgs_of result ≡ self.now.pkgs }
-        ensures profile { profile_of result ≡ self.now.profile }
-        ensures level { level_of result ≡ level }
-        ensures test { AnswersVisible (F.pre (test_of result)) (F.post (test_of result)) (profile_of result) (level_of result) }
+        ensures pkgs { IfOk result (λ candidates. pkgs_of candidates ≡ self.now.pkgs) }
+        ensures profile { IfOk result (λ candidates. profile_of candidates ≡ self.now.profile) }
+        ensures level { IfOk result (λ candidates. level_of candidates ≡ level) }
+        ensures test { IfOk result (λ candidates. AnswersVisible (F.pre (test_of candidates)) (F.post (test_of candidates)) (profile_of candidates) (level_of candidates)) }
     {
         match &self.shown {
-            Some(shown) => Candidates::among(shown, level, test),
-            None => Candidates::over(self.index, self.profile, level, test),
+            Some(shown) => Ok(Candidates::among(shown, level, test)),
+            None => Candidates::new(alloc, self.pkgs, self.profile, level, test),
         }
     }
 
@@ -122,15 +123,15 @@ fn states<'a>(
 // What the profile shows, where it is asked about many packages.
 fn shown<'a>(
     alloc: Global,
-    index: &'a PkgIndex<'a>,
+    pkgs: &'a Pkgs,
     profile: &'a Profile,
     asked: Asked,
 ) -> Result<Option<VisiblePkgs<'a>>, NoMemory>
-    ensures { IfOk result (λ shown. IfSome shown (λ pkgs. pkgs ≡ seen index.now profile.now)) }
+    ensures { IfOk result (λ shown. IfSome shown (λ views. views ≡ seen pkgs.now profile.now)) }
 {
     match asked {
         Asked::Few => Ok(None),
-        Asked::Many => Ok(Some(VisiblePkgs::new(alloc, index, profile)?)),
+        Asked::Many => Ok(Some(VisiblePkgs::new(alloc, pkgs, profile)?)),
     }
 }
 
@@ -151,15 +152,15 @@ pub(crate) fn ruled<'a>(
 /// The view of each profile.
 pub(crate) fn all_views<'a>(
     alloc: Global,
-    index: &'a PkgIndex<'a>,
+    pkgs: &'a Pkgs,
     profiles: &'a [Profile],
     asked: Asked,
 ) -> Result<Vec<ProfileView<'a>>, NoMemory>
-    ensures { IfOk result (λ views. views.items ≡ map (seen index.now) profiles.now) }
+    ensures { IfOk result (λ views. views.items ≡ map (seen pkgs.now) profiles.now) }
 {
     let mut views = Vec::with_capacity(alloc, profiles.len())?;
     for profile in profiles {
-        views.push(ProfileView::new(alloc, index, profile, asked)?)?;
+        views.push(ProfileView::new(alloc, pkgs, profile, asked)?)?;
     }
     Ok(views)
 }

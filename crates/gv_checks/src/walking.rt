@@ -1,27 +1,35 @@
-//! All queries of a repository, in order: by package, by profile line, by class.
+//! All queries of a repository, in order: by package, by profile line, by class; and those of them that are chosen, judged.
 //!
-//! What each profile shows of the packages is asked once. Then a package costs O(profiles) and
-//! finding what its classes ask about, and each context in which it is judged the keys of its queries. What is lowered in one
+//! A package of which no query can be chosen costs O(1), and any other O(profiles) and
+//! finding what its classes ask about, and each context in which it is judged the keys of its chosen queries. What is lowered in one
 //! context of a package is shared by the others. A package's reports that need no query are made just before its queries, since both
 //! look up the same names.
-ghost use Rattle.std.specs.Prelude.{◌≡◌, ◌≤◌, ◌++◌, Some, slice_get, map, filter, flat_map, filter_map, IfOk, OnOk};
-ghost use Rattle.gv_visible.specs.Candidates.{test_of};
+ghost use Rattle.std.specs.Prelude.{◌≡◌, ◌++◌, [], ◌∷◌, Some, slice_get, length, map, filter, flat_map, filter_map, IfOk, IfErr, OnOk};
+ghost use Rattle.std.specs.List.{AllByRecursion};
+ghost use Rattle.gv_usestate.specs.Kinds.{IsOneOf};
+ghost use Rattle.gv_checks.specs.Answers.{AreAnswers, StopsAt};
 ghost use Rattle.gv_checks.specs.Cases.{case_in, cases_of, members, members_from};
-ghost use Rattle.gv_checks.specs.Context.{AreAround, IsNumbered, case_of};
-ghost use Rattle.gv_checks.specs.Keys.{ArePartsOf, HasSites};
-ghost use Rattle.gv_checks.specs.Plain.{told_member};
+ghost use Rattle.gv_checks.specs.Certs.{CountsAtMost};
+ghost use Rattle.gv_checks.specs.Chosen.{chosen, told_chosen, told_of};
+ghost use Rattle.gv_checks.specs.Context.{IsNumbered, case_of, listed};
+ghost use Rattle.gv_checks.specs.Keys.{ArePartsOf, AreSitesOf, HasSites};
+ghost use Rattle.gv_checks.specs.Named.{HasNamed};
+ghost use Rattle.gv_checks.specs.Progress.{IsSomewhere};
+ghost use Rattle.gv_checks.specs.Queries.{case_asks, case_queries, class_queries, queries, query_name};
 ghost use Rattle.gv_checks.specs.Shared.{AreKept, AreReady};
-ghost use Rattle.gv_checks.specs.Walks.{seen};
-ghost use Rattle.gv_checks.specs.Progress.{IsSomewhere, Judges};
-ghost use Rattle.gv_checks.specs.Queries.{case_queries, class_queries, queries, query_name, query_of};
+ghost use Rattle.gv_checks.specs.Seen.{seen};
+ghost use Rattle.gv_checks.specs.Walks.{Goes};
 
+use crate::chosen::Asking;
 use crate::classes::classes;
-use crate::context::JudgedPkg;
-use crate::judging::{Progress, add_case_names, is_asked, judge_query};
+use crate::context::{JudgedPkg, ListedPkg, Spot};
+use crate::judging::{Progress, add_names, is_asked, judge_query, next_number};
 use crate::keys::{PkgSites, make_required_key};
 use crate::plainly::add_member;
 use crate::shared::Shared;
+use crate::used::Used;
 use crate::views::ProfileView;
+use crate::walk::Walk;
 use crate::{JudgeFault, QueryNames};
 use gv_base::{Ledger, NoMemory, Steps};
 use gv_cert::Known;
@@ -29,36 +37,133 @@ use gv_entry::Body;
 use gv_facts::{Class, Pkg, Profile};
 use gv_load::Repo;
 use gv_report::{Options, Reports};
-use gv_usestate::{ProfileStates, RuledFlags};
-use gv_visible::{Candidates, PkgIndex, judged, visible};
+use gv_visible::judged;
 use std::alloc::Global;
 
-/// Judges all queries, in order, and adds the reports that need none; with no budget by the records alone. The views are those of
-/// the profiles.
-pub(crate) fn judge_all<L: Ledger>(
-    alloc: Global,
-    repo: &Repo,
-    index: &PkgIndex<'_>,
-    ruled: &RuledFlags<'_>,
-    views: &[ProfileView<'_>],
-    options: &Options,
-    budget: u32,
-    given: &Known,
+/// What a walk answers.
+#[derive(Drop)]
+pub struct Answers {
+    /// What is told without a query, by package.
+    pub plain: Reports,
+    /// The reports of the queries, in their order.
+    pub reports: Reports,
+    /// One record for each distinct query, in the order of first use.
+    pub certs: Known,
+    /// The number of queries.
+    pub queries: u32,
+}
+
+/// Why a walk ended early, and behind how many queries.
+#[derive(Drop)]
+pub struct Stopped {
+    pub fault: JudgeFault,
+    pub behind: u32,
+}
+
+/// How far a walk has come: the queries that were judged, and how many were come to.
+#[derive(Drop)]
+pub(crate) struct Going {
+    pub(crate) progress: Progress,
+    pub(crate) place: u32,
+}
+
+/// A walk that is gone: over what, what is asked of it, and where memory is taken from.
+#[derive(Clone, Copy)]
+pub(crate) struct Errand<'a> {
+    pub(crate) alloc: Global,
+    pub(crate) walk: &'a Walk<'a>,
+    pub(crate) asking: &'a Asking<'a>,
+}
+
+impl<'a> Walk<'a> {
+    /// Judges the queries that are chosen, in order, and tells what is chosen of what needs none. A query has the answer of the
+    /// first backed record among the given ones where there is one; with no budget only these answer. Whatever it answers, no more
+    /// are lowered than are chosen, and no more solved; each distinct one without such a record is solved once. The first query
+    /// that is refused ends it.
+    pub fn judge<L: Ledger>(
+        &self,
+        alloc: Global,
+        asking: &Asking<'_>,
+        steps: &mut Steps<L>,
+    ) -> Result<Answers, Stopped>
+        ensures plain { IfOk result (λ answers. answers.plain ≡ told_chosen asking.now.chosen self.now.options self.now.repo) }
+        ensures answers { IfOk result (AreAnswers asking.now.budget asking.now.given.now (chosen asking.now.chosen (queries self.now.options self.now.repo)) steps.old steps.new) }
+        ensures stopped { IfErr result (StopsAt asking.now.budget asking.now.given.now (chosen asking.now.chosen (queries self.now.options self.now.repo))) }
+        ensures few { CountsAtMost (length (chosen asking.now.chosen (queries self.now.options self.now.repo))) steps.old steps.new }
+        ensures unsolved { asking.now.budget ≡ 0 → steps.new.solve ≡ steps.old.solve }
+    {
+        let mut plain = Reports::new(alloc);
+        let mut going = Going {
+            progress: Progress {
+                used: Used::new(alloc),
+                reports: Reports::new(alloc),
+                queries: 0,
+            },
+            place: 0,
+        };
+        let errand = Errand {
+            alloc,
+            walk: &*self,
+            asking: &*asking,
+        };
+        match judge_all(&errand, &mut plain, &mut going, steps) {
+            Ok(()) => {}
+            Err(fault) => {
+                let behind = going.progress.queries;
+                return Err(Stopped { fault, behind });
+            }
+        }
+        let Going { progress, place: _ } = going;
+        let Progress {
+            used,
+            reports,
+            queries,
+        } = progress;
+        let Used { certs, found: _ } = used;
+        Ok(Answers {
+            plain,
+            reports,
+            certs,
+            queries,
+        })
+    }
+}
+
+// Goes over all queries.
+fn judge_all<L: Ledger>(
+    errand: &Errand<'_>,
     plain: &mut Reports,
-    progress: &mut Progress,
+    going: &mut Going,
     steps: &mut Steps<L>,
 ) -> Result<(), JudgeFault>
-    requires index { index.now ≡ repo.now.pkgs }
-    requires ruled { ruled.now ≡ repo.now.profiles }
-    requires views { views.now ≡ map (seen repo.now.pkgs) repo.now.profiles }
-    requires most { budget ≤ 1000000 }
-    requires somewhere { IsSomewhere budget given.now progress.old steps.old }
-    ensures judges { Judges budget given.now (queries options.now repo.now) progress.old progress.new steps.old steps.new result }
-    ensures unsolved { budget ≡ 0 → steps.new.solve ≡ steps.old.solve }
-    ensures plain { OnOk result (plain.new ≡ plain.old ++ flat_map (told_member options.now repo.now) (members repo.now)) }
+    requires somewhere { IsSomewhere errand.now.asking.now.budget errand.now.asking.now.given.now going.old.progress steps.old }
+    ensures goes { Goes errand.now.asking.now (queries errand.now.walk.now.options errand.now.walk.now.repo) going.old going.new steps.old steps.new result }
+    ensures plain { OnOk result (plain.new ≡ plain.old ++ told_chosen errand.now.asking.now.chosen errand.now.walk.now.options errand.now.walk.now.repo) }
 {
-    let pkgs = repo.pkgs.items();
-    let bodies = repo.bodies.items();
+    let repo = errand.walk.repo();
+    judge_members(
+        errand,
+        repo.pkgs.items(),
+        repo.bodies.items(),
+        plain,
+        going,
+        steps,
+    )
+}
+
+fn judge_members<'a, L: Ledger>(
+    errand: &Errand<'a>,
+    pkgs: &'a [Pkg],
+    bodies: &'a [Body],
+    plain: &mut Reports,
+    going: &mut Going,
+    steps: &mut Steps<L>,
+) -> Result<(), JudgeFault>
+    requires pkgs { pkgs.now ≡ errand.now.walk.now.repo.pkgs }
+    requires somewhere { IsSomewhere errand.now.asking.now.budget errand.now.asking.now.given.now going.old.progress steps.old }
+    ensures goes { Goes errand.now.asking.now (flat_map (case_queries errand.now.walk.now.options) (flat_map (cases_of errand.now.walk.now.repo) (members_from 0 pkgs.now bodies.now))) going.old going.new steps.old steps.new result }
+    ensures plain { OnOk result (plain.new ≡ plain.old ++ flat_map (told_of errand.now.asking.now.chosen errand.now.walk.now.options errand.now.walk.now.repo) (members_from 0 pkgs.now bodies.now)) }
+{
     for (i, pkg) in pkgs.iter().enumerate() {
         if i >= bodies.len() {
             return Ok(());
@@ -66,10 +171,12 @@ pub(crate) fn judge_all<L: Ledger>(
         let Ok(number) = u32::try_from(i) else {
             return Err(JudgeFault::NoMemory);
         };
-        match judge_member(
-            alloc, repo, &*index, &*ruled, views, number, pkg, &bodies[i], options, budget, given,
-            plain, progress, steps,
-        ) {
+        let one = ListedPkg {
+            number,
+            pkg,
+            body: &bodies[i],
+        };
+        match judge_member(errand, &one, plain, going, steps) {
             Ok(()) => {}
             Err(fault) => return Err(fault),
         }
@@ -77,10 +184,215 @@ pub(crate) fn judge_all<L: Ledger>(
     Ok(())
 }
 
+// Tells of a package what needs no query, and judges its queries, as far as they are chosen.
+fn judge_member<'a, L: Ledger>(
+    errand: &Errand<'a>,
+    one: &ListedPkg<'a>,
+    plain: &mut Reports,
+    going: &mut Going,
+    steps: &mut Steps<L>,
+) -> Result<(), JudgeFault>
+    requires numbered { slice_get errand.now.walk.now.repo.pkgs one.now.number ≡ Some one.now.pkg.now }
+    requires somewhere { IsSomewhere errand.now.asking.now.budget errand.now.asking.now.given.now going.old.progress steps.old }
+    ensures goes { Goes errand.now.asking.now (flat_map (case_queries errand.now.walk.now.options) (cases_of errand.now.walk.now.repo (listed one.now))) going.old going.new steps.old steps.new result }
+    ensures plain { OnOk result (plain.new ≡ plain.old ++ told_of errand.now.asking.now.chosen errand.now.walk.now.options errand.now.walk.now.repo (listed one.now)) }
+{
+    tell_member(errand, one, plain)?;
+    if errand.asking.chosen.passes(one.number) {
+        return Ok(());
+    }
+    judge_pkg(errand, one, going, steps)
+}
+
+// Adds what needs no query, where that is told of the package.
+fn tell_member(
+    errand: &Errand<'_>,
+    one: &ListedPkg<'_>,
+    plain: &mut Reports,
+) -> Result<(), NoMemory>
+    requires numbered { slice_get errand.now.walk.now.repo.pkgs one.now.number ≡ Some one.now.pkg.now }
+    ensures { OnOk result (plain.new ≡ plain.old ++ told_of errand.now.asking.now.chosen errand.now.walk.now.options errand.now.walk.now.repo (listed one.now)) }
+{
+    if errand.asking.chosen.tells(one.number) {
+        return add_member(errand.alloc, errand.walk, one, plain);
+    }
+    Ok(())
+}
+
+// Judges the chosen queries of a package.
+fn judge_pkg<'a, L: Ledger>(
+    errand: &Errand<'a>,
+    one: &ListedPkg<'a>,
+    going: &mut Going,
+    steps: &mut Steps<L>,
+) -> Result<(), JudgeFault>
+    requires numbered { slice_get errand.now.walk.now.repo.pkgs one.now.number ≡ Some one.now.pkg.now }
+    requires somewhere { IsSomewhere errand.now.asking.now.budget errand.now.asking.now.given.now going.old.progress steps.old }
+    ensures { Goes errand.now.asking.now (flat_map (case_queries errand.now.walk.now.options) (cases_of errand.now.walk.now.repo (listed one.now))) going.old going.new steps.old steps.new result }
+{
+    let alloc = errand.alloc;
+    let walk = errand.walk;
+    let repo = walk.repo();
+    let sites = PkgSites::new(alloc, walk.ruled(), &repo.pkgs, one.pkg, one.body)?;
+    let mut shared = Shared::new(alloc);
+    judge_views(errand, walk.views(), one, &sites, going, &mut shared, steps)
+}
+
+fn judge_views<L: Ledger>(
+    errand: &Errand<'_>,
+    views: &[ProfileView<'_>],
+    one: &ListedPkg<'_>,
+    sites: &PkgSites<'_>,
+    going: &mut Going,
+    shared: &mut Shared,
+    steps: &mut Steps<L>,
+) -> Result<(), JudgeFault>
+    requires views { views.now ≡ map (seen errand.now.walk.now.repo.pkgs) errand.now.walk.now.repo.profiles }
+    requires numbered { slice_get errand.now.walk.now.repo.pkgs one.now.number ≡ Some one.now.pkg.now }
+    requires sites { AreSitesOf errand.now.walk.now.repo.profiles one.now.pkg.now errand.now.walk.now.repo.pkgs one.now.body.now sites.now }
+    requires somewhere { IsSomewhere errand.now.asking.now.budget errand.now.asking.now.given.now going.old.progress steps.old }
+    requires shared { AreKept one.now.pkg.now one.now.body.now going.old.progress.used.certs shared.old.queries.items }
+    ensures { Goes errand.now.asking.now (flat_map (case_queries errand.now.walk.now.options) (filter_map (case_in errand.now.walk.now.repo.pkgs (listed one.now)) errand.now.walk.now.repo.profiles)) going.old going.new steps.old steps.new result }
+{
+    for view in views {
+        match judge_view(errand, &*view, one, sites, going, shared, steps) {
+            Ok(()) => {}
+            Err(fault) => return Err(fault),
+        }
+    }
+    Ok(())
+}
+
+// Judges the chosen queries of a package in a profile, where that judges it.
+fn judge_view<'a, L: Ledger>(
+    errand: &Errand<'_>,
+    view: &'a ProfileView<'a>,
+    one: &ListedPkg<'_>,
+    sites: &PkgSites<'_>,
+    going: &mut Going,
+    shared: &mut Shared,
+    steps: &mut Steps<L>,
+) -> Result<(), JudgeFault>
+    requires view { view.now ≡ seen errand.now.walk.now.repo.pkgs view.now.profile }
+    requires one { IsOneOf errand.now.walk.now.repo.profiles view.now.profile }
+    requires numbered { slice_get errand.now.walk.now.repo.pkgs one.now.number ≡ Some one.now.pkg.now }
+    requires sites { AreSitesOf errand.now.walk.now.repo.profiles one.now.pkg.now errand.now.walk.now.repo.pkgs one.now.body.now sites.now }
+    requires somewhere { IsSomewhere errand.now.asking.now.budget errand.now.asking.now.given.now going.old.progress steps.old }
+    requires shared { AreKept one.now.pkg.now one.now.body.now going.old.progress.used.certs shared.old.queries.items }
+    ensures goes { Goes errand.now.asking.now (case_asks errand.now.walk.now.options (case_in errand.now.walk.now.repo.pkgs (listed one.now) view.now.profile)) going.old going.new steps.old steps.new result }
+    ensures shared { OnOk result (AreKept one.now.pkg.now one.now.body.now going.new.progress.used.certs shared.new.queries.items) }
+{
+    match view.judged(one.number, one.pkg) {
+        None => Ok(()),
+        Some(level) => {
+            let repo = errand.walk.repo();
+            let judged = JudgedPkg {
+                number: one.number,
+                pkg: one.pkg,
+                body: one.body,
+                profile: view.profile(),
+                level,
+                pkgs: &repo.pkgs,
+            };
+            let spot = Spot {
+                judged,
+                view,
+                sites: &*sites,
+            };
+            judge_case(errand, &spot, going, shared, steps)
+        }
+    }
+}
+
+// Judges the chosen queries of a package in a context.
+fn judge_case<L: Ledger>(
+    errand: &Errand<'_>,
+    spot: &Spot<'_>,
+    going: &mut Going,
+    shared: &mut Shared,
+    steps: &mut Steps<L>,
+) -> Result<(), JudgeFault>
+    requires numbered { IsNumbered spot.now.judged }
+    requires view { spot.now.view.now ≡ seen spot.now.judged.pkgs.now spot.now.judged.profile.now }
+    requires sites { HasSites spot.now.judged spot.now.sites.now }
+    requires somewhere { IsSomewhere errand.now.asking.now.budget errand.now.asking.now.given.now going.old.progress steps.old }
+    requires shared { AreKept spot.now.judged.pkg.now spot.now.judged.body.now going.old.progress.used.certs shared.old.queries.items }
+    ensures goes { Goes errand.now.asking.now (case_queries errand.now.walk.now.options (case_of spot.now.judged)) going.old going.new steps.old steps.new result }
+    ensures shared { OnOk result (AreKept spot.now.judged.pkg.now spot.now.judged.body.now going.new.progress.used.certs shared.new.queries.items) }
+{
+    make_required_key(
+        &spot.judged,
+        spot.view.states(),
+        spot.sites,
+        &mut shared.required,
+    )?;
+    shared.begin();
+    judge_classes(errand, spot, &classes(), going, shared, steps)
+}
+
+fn judge_classes<L: Ledger>(
+    errand: &Errand<'_>,
+    spot: &Spot<'_>,
+    classes: &[Class],
+    going: &mut Going,
+    shared: &mut Shared,
+    steps: &mut Steps<L>,
+) -> Result<(), JudgeFault>
+    requires numbered { IsNumbered spot.now.judged }
+    requires view { spot.now.view.now ≡ seen spot.now.judged.pkgs.now spot.now.judged.profile.now }
+    requires parts { ArePartsOf spot.now.judged spot.now.judged.profile.now spot.now.sites.now shared.old.required.items }
+    requires somewhere { IsSomewhere errand.now.asking.now.budget errand.now.asking.now.given.now going.old.progress steps.old }
+    requires shared { AreReady spot.now.judged going.old.progress.used.certs shared.old }
+    ensures goes { Goes errand.now.asking.now (class_queries errand.now.walk.now.options classes.now (case_of spot.now.judged)) going.old going.new steps.old steps.new result }
+    ensures shared { OnOk result (AreReady spot.now.judged going.new.progress.used.certs shared.new) }
+{
+    for class in classes {
+        match judge_class(errand, spot, *class, going, shared, steps) {
+            Ok(()) => {}
+            Err(fault) => return Err(fault),
+        }
+    }
+    Ok(())
+}
+
+// Judges the query of a class, if there is one and it is chosen.
+fn judge_class<L: Ledger>(
+    errand: &Errand<'_>,
+    spot: &Spot<'_>,
+    class: Class,
+    going: &mut Going,
+    shared: &mut Shared,
+    steps: &mut Steps<L>,
+) -> Result<(), JudgeFault>
+    requires numbered { IsNumbered spot.now.judged }
+    requires view { spot.now.view.now ≡ seen spot.now.judged.pkgs.now spot.now.judged.profile.now }
+    requires parts { ArePartsOf spot.now.judged spot.now.judged.profile.now spot.now.sites.now shared.old.required.items }
+    requires somewhere { IsSomewhere errand.now.asking.now.budget errand.now.asking.now.given.now going.old.progress steps.old }
+    requires shared { AreReady spot.now.judged going.old.progress.used.certs shared.old }
+    ensures goes { Goes errand.now.asking.now (class_queries errand.now.walk.now.options (class ∷ []) (case_of spot.now.judged)) going.old going.new steps.old steps.new result }
+    ensures shared { OnOk result (AreReady spot.now.judged going.new.progress.used.certs shared.new) }
+    ensures required { shared.new.required.items ≡ shared.old.required.items }
+{
+    if !is_asked(errand.walk.options(), &spot.judged, class) {
+        return Ok(());
+    }
+    let is_chosen = errand
+        .asking
+        .chosen
+        .has(going.place, spot.judged.number, class);
+    going.place = next_number(going.place)?;
+    if is_chosen {
+        return judge_query(errand, spot, class, &mut going.progress, shared, steps);
+    }
+    Ok(())
+}
+
 /// The names of the queries of a repository under options, in their order. Packages are numbered by 32 bits, and more of
 /// them find no memory.
+#[tactic(auto, using(crate::proofs::NamedLemmas::names_named))]
 pub fn queries(alloc: Global, repo: &Repo, options: &Options) -> Result<QueryNames, NoMemory>
-    ensures { IfOk result (λ names. names ≡ map query_name (queries options.now repo.now)) }
+    ensures names { IfOk result (λ names. names ≡ map query_name (queries options.now repo.now)) }
+    ensures named { IfOk result (AllByRecursion (HasNamed options.now repo.now)) }
 {
     let mut names = QueryNames::new(alloc);
     add_all_names(
@@ -91,200 +403,6 @@ pub fn queries(alloc: Global, repo: &Repo, options: &Options) -> Result<QueryNam
         &mut names,
     )?;
     Ok(names)
-}
-
-fn judge_classes<F: Fn(&Pkg) -> bool, L: Ledger>(
-    alloc: Global,
-    candidates: &Candidates<'_, F>,
-    judged: &JudgedPkg<'_>,
-    states: &ProfileStates<'_>,
-    sites: &PkgSites<'_>,
-    required: &[u8],
-    classes: &[Class],
-    options: &Options,
-    budget: u32,
-    given: &Known,
-    progress: &mut Progress,
-    shared: &mut Shared,
-    steps: &mut Steps<L>,
-) -> Result<(), JudgeFault>
-    requires parts { ArePartsOf judged.now states.now sites.now required.now }
-    requires around { AreAround (F.pre (test_of candidates.now)) (F.post (test_of candidates.now)) candidates.now judged.now }
-    requires most { budget ≤ 1000000 }
-    requires somewhere { IsSomewhere budget given.now progress.old steps.old }
-    requires shared { AreReady judged.now progress.old.used.certs shared.old }
-    ensures judges { Judges budget given.now (class_queries options.now classes.now (case_of judged.now)) progress.old progress.new steps.old steps.new result }
-    ensures unsolved { budget ≡ 0 → steps.new.solve ≡ steps.old.solve }
-    ensures shared { OnOk result (AreReady judged.now progress.new.used.certs shared.new) }
-{
-    for class in classes {
-        if is_asked(options, judged, *class) {
-            match judge_query(
-                alloc, candidates, judged, *class, states, sites, required, budget, given,
-                progress, shared, steps,
-            ) {
-                Ok(()) => {}
-                Err(fault) => return Err(fault),
-            }
-        }
-    }
-    Ok(())
-}
-
-fn judge_case<'a, L: Ledger>(
-    alloc: Global,
-    view: &'a ProfileView<'a>,
-    sites: &PkgSites<'_>,
-    judged: &JudgedPkg<'_>,
-    classes: &[Class],
-    options: &Options,
-    budget: u32,
-    given: &Known,
-    progress: &mut Progress,
-    shared: &mut Shared,
-    required: &mut Vec<u8>,
-    steps: &mut Steps<L>,
-) -> Result<(), JudgeFault>
-    requires numbered { IsNumbered judged.now }
-    requires view { view.now ≡ seen judged.now.pkgs.now judged.now.profile.now }
-    requires sites { HasSites judged.now sites.now }
-    requires most { budget ≤ 1000000 }
-    requires somewhere { IsSomewhere budget given.now progress.old steps.old }
-    requires shared { AreKept judged.now.pkg.now judged.now.body.now progress.old.used.certs shared.old.queries.items }
-    ensures judges { Judges budget given.now (class_queries options.now classes.now (case_of judged.now)) progress.old progress.new steps.old steps.new result }
-    ensures unsolved { budget ≡ 0 → steps.new.solve ≡ steps.old.solve }
-    ensures shared { OnOk result (AreKept judged.now.pkg.now judged.now.body.now progress.new.used.certs shared.new.queries.items) }
-{
-    make_required_key(judged, view.states(), sites, required)?;
-    shared.begin();
-    let profile = view.profile();
-    let level = judged.level;
-    let test = |pkg: &Pkg| visible(pkg, profile, level);
-    let candidates = view.candidates(level, test);
-    judge_classes(
-        alloc,
-        &candidates,
-        judged,
-        view.states(),
-        sites,
-        required.as_slice(),
-        classes,
-        options,
-        budget,
-        given,
-        progress,
-        shared,
-        steps,
-    )
-}
-
-// Judges a package's queries, behind its reports that need none.
-fn judge_member<'a, L: Ledger>(
-    alloc: Global,
-    repo: &Repo,
-    index: &'a PkgIndex<'a>,
-    ruled: &'a RuledFlags<'a>,
-    views: &[ProfileView<'_>],
-    number: u32,
-    pkg: &'a Pkg,
-    body: &'a Body,
-    options: &Options,
-    budget: u32,
-    given: &Known,
-    plain: &mut Reports,
-    progress: &mut Progress,
-    steps: &mut Steps<L>,
-) -> Result<(), JudgeFault>
-    requires index { index.now ≡ repo.now.pkgs }
-    requires ruled { ruled.now ≡ repo.now.profiles }
-    requires views { views.now ≡ map (seen repo.now.pkgs) repo.now.profiles }
-    requires numbered { slice_get repo.now.pkgs number ≡ Some pkg.now }
-    requires most { budget ≤ 1000000 }
-    requires somewhere { IsSomewhere budget given.now progress.old steps.old }
-    ensures judges { Judges budget given.now (flat_map (case_queries options.now) (filter_map (case_in repo.now.pkgs (record { number = number; pkg = pkg.now; body = body.now })) repo.now.profiles)) progress.old progress.new steps.old steps.new result }
-    ensures unsolved { budget ≡ 0 → steps.new.solve ≡ steps.old.solve }
-    ensures plain { OnOk result (plain.new ≡ plain.old ++ told_member options.now repo.now (record { number = number; pkg = pkg.now; body = body.now })) }
-{
-    add_member(
-        alloc, options, repo, &*index, views, number, pkg, body, plain,
-    )?;
-    judge_pkg(
-        alloc,
-        repo,
-        index,
-        ruled,
-        views,
-        number,
-        pkg,
-        body,
-        &classes(),
-        options,
-        budget,
-        given,
-        progress,
-        steps,
-    )
-}
-
-/// Judges the queries of a package for these classes.
-pub(crate) fn judge_pkg<'a, L: Ledger>(
-    alloc: Global,
-    repo: &Repo,
-    index: &'a PkgIndex<'a>,
-    ruled: &'a RuledFlags<'a>,
-    views: &[ProfileView<'_>],
-    number: u32,
-    pkg: &'a Pkg,
-    body: &'a Body,
-    classes: &[Class],
-    options: &Options,
-    budget: u32,
-    given: &Known,
-    progress: &mut Progress,
-    steps: &mut Steps<L>,
-) -> Result<(), JudgeFault>
-    requires index { index.now ≡ repo.now.pkgs }
-    requires ruled { ruled.now ≡ repo.now.profiles }
-    requires views { views.now ≡ map (seen repo.now.pkgs) repo.now.profiles }
-    requires numbered { slice_get repo.now.pkgs number ≡ Some pkg.now }
-    requires most { budget ≤ 1000000 }
-    requires somewhere { IsSomewhere budget given.now progress.old steps.old }
-    ensures judges { Judges budget given.now (flat_map (class_queries options.now classes.now) (filter_map (case_in repo.now.pkgs (record { number = number; pkg = pkg.now; body = body.now })) repo.now.profiles)) progress.old progress.new steps.old steps.new result }
-    ensures unsolved { budget ≡ 0 → steps.new.solve ≡ steps.old.solve }
-{
-    let sites = PkgSites::new(alloc, ruled, index, pkg, body)?;
-    let mut shared = Shared::new(alloc);
-    let mut required = Vec::new(alloc);
-    for view in views {
-        if let Some(level) = view.judged(number, pkg) {
-            let judged = JudgedPkg {
-                number,
-                pkg,
-                body,
-                profile: view.profile(),
-                level,
-                pkgs: &repo.pkgs,
-            };
-            match judge_case(
-                alloc,
-                &*view,
-                &sites,
-                &judged,
-                classes,
-                options,
-                budget,
-                given,
-                progress,
-                &mut shared,
-                &mut required,
-                steps,
-            ) {
-                Ok(()) => {}
-                Err(fault) => return Err(fault),
-            }
-        }
-    }
-    Ok(())
 }
 
 fn add_pkg_names(
@@ -308,7 +426,7 @@ fn add_pkg_names(
                 level,
                 pkgs: &repo.pkgs,
             };
-            add_case_names(options, &judged, names)?;
+            add_names(options, &judged, &classes(), names)?;
         }
     }
     Ok(())

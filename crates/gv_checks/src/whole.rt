@@ -1,22 +1,23 @@
 //! A repository judged: its reports, and the certificates of its queries.
 //!
-//! The view of each profile is made once. Besides that `judge` costs what `plain` over these
-//! views, the queries, and putting the reports in order cost.
-ghost use Rattle.std.specs.Prelude.{◌≡◌};
+//! It costs what `walk` says of many packages, the walk over all queries, and putting the reports in order.
+ghost use Rattle.std.specs.Prelude.{◌≡◌, ◌++◌, length, filter, IfErr, IfOk};
+ghost use Rattle.gv_report.specs.Distinct.{ordered};
+ghost use Rattle.gv_report.specs.Selecting.{selected};
 ghost use Rattle.gv_checks.specs.Answered.{JudgesAll};
+ghost use Rattle.gv_checks.specs.Certs.{CountsAtMost};
+ghost use Rattle.gv_checks.specs.Limits.{RefusesFirst};
+ghost use Rattle.gv_checks.specs.Queries.{queries};
 
 use crate::JudgeFault;
-use crate::judging::Progress;
+use crate::chosen::{Asking, Chosen};
 use crate::plainly::noted;
-use crate::used::Used;
-use crate::views::{Asked, all_views};
-use crate::walking::judge_all;
-use gv_base::{Ledger, Steps};
+use crate::walk::Walk;
+use crate::walking::{Answers, Stopped};
+use gv_base::{Ledger, NoMemory, Steps};
 use gv_cert::Known;
 use gv_load::Repo;
 use gv_report::{Options, Reports, ordered};
-use gv_usestate::RuledFlags;
-use gv_visible::PkgIndex;
 use std::alloc::Global;
 
 /// What judging a repository answers.
@@ -30,10 +31,23 @@ pub struct Judged {
     pub queries: u32,
 }
 
+impl Judged {
+    /// The same once more. O(bytes).
+    pub fn copy(&self, alloc: Global) -> Result<Judged, NoMemory>
+        ensures { IfOk result (λ judged. judged ≡ self.now) }
+    {
+        Ok(Judged {
+            reports: self.reports.copy(alloc)?,
+            certs: self.certs.copy(alloc)?,
+            queries: self.queries,
+        })
+    }
+}
+
 /// The reports of a scan, in order, equal ones once; and one record for each distinct query by the bytes of its gates, in
-/// the order of first use, with the answer of the first backed record among the given ones where there is one. Each
-/// query is lowered at most once, and each distinct one without such a record is solved once. The first query that is refused
-/// ends it.
+/// the order of first use, with the answer of the first backed record among the given ones where there is one. Whatever it
+/// answers, no more are lowered than there are queries, and no more solved; each distinct one without such a record is solved once.
+/// The first query that is refused ends it.
 pub fn judge<L: Ledger>(
     alloc: Global,
     repo: &Repo,
@@ -41,57 +55,40 @@ pub fn judge<L: Ledger>(
     certs: &Known,
     steps: &mut Steps<L>,
 ) -> Result<Judged, JudgeFault>
-    ensures { JudgesAll options.now certs.now repo.now steps.old steps.new result }
+    ensures judges { JudgesAll options.now certs.now repo.now steps.old steps.new result }
+    ensures first { IfErr result (RefusesFirst options.now.budget certs.now (queries options.now repo.now)) }
+    ensures few { CountsAtMost (length (queries options.now repo.now)) steps.old steps.new }
 {
-    let index = PkgIndex::new(&repo.pkgs);
-    let ruled = RuledFlags::new(alloc, repo.profiles.items())?;
-    judge_over(alloc, repo, &index, &ruled, options, certs, steps)
+    judge_by(alloc, &*repo, &*options, &*certs, steps)
 }
 
-fn judge_indexed<'a, L: Ledger>(
+fn judge_by<'a, L: Ledger>(
     alloc: Global,
     repo: &'a Repo,
-    index: &'a PkgIndex<'a>,
-    ruled: &RuledFlags<'_>,
-    options: &Options,
-    certs: &Known,
+    options: &'a Options,
+    certs: &'a Known,
     steps: &mut Steps<L>,
 ) -> Result<Judged, JudgeFault>
-    requires index { index.now ≡ repo.now.pkgs }
-    requires ruled { ruled.now ≡ repo.now.profiles }
-    ensures { JudgesAll options.now certs.now repo.now steps.old steps.new result }
+    ensures judges { JudgesAll options.now certs.now repo.now steps.old steps.new result }
+    ensures first { IfErr result (RefusesFirst options.now.budget certs.now (queries options.now repo.now)) }
+    ensures few { CountsAtMost (length (queries options.now repo.now)) steps.old steps.new }
 {
-    let views = all_views(alloc, index, repo.profiles.items(), Asked::Many)?;
-    let mut plain = noted(alloc, repo, options)?;
-    let mut progress = Progress {
-        used: Used::new(alloc),
-        reports: Reports::new(alloc),
-        queries: 0,
+    let walk = Walk::new(alloc, repo, options)?;
+    let asking = Asking {
+        chosen: Chosen::All,
+        budget: options.budget,
+        given: certs,
     };
-    match judge_all(
-        alloc,
-        repo,
-        &*index,
-        ruled,
-        &views,
-        options,
-        options.budget,
-        certs,
-        &mut plain,
-        &mut progress,
-        steps,
-    ) {
-        Ok(()) => {}
-        Err(fault) => return Err(fault),
-    }
-    let Progress {
-        used,
+    let Answers {
+        plain,
         reports: asked,
+        certs,
         queries,
-    } = progress;
-    let Used { certs, found: _ } = used;
-    plain.append(asked)?;
-    let reports = ordered(alloc, plain)?;
+    } = match walk.judge(alloc, &asking, steps) {
+        Ok(answers) => answers,
+        Err(Stopped { fault, behind: _ }) => return Err(fault),
+    };
+    let reports = all_reports(alloc, repo, options, plain, asked)?;
     Ok(Judged {
         reports,
         certs,
@@ -99,18 +96,18 @@ fn judge_indexed<'a, L: Ledger>(
     })
 }
 
-fn judge_over<L: Ledger>(
+/// The selected notes, what is told without a query, and the reports of queries, in order, equal ones once.
+pub(crate) fn all_reports(
     alloc: Global,
     repo: &Repo,
-    index: &PkgIndex<'_>,
-    ruled: &RuledFlags<'_>,
     options: &Options,
-    certs: &Known,
-    steps: &mut Steps<L>,
-) -> Result<Judged, JudgeFault>
-    requires index { index.now ≡ repo.now.pkgs }
-    requires ruled { ruled.now ≡ repo.now.profiles }
-    ensures { JudgesAll options.now certs.now repo.now steps.old steps.new result }
+    plain: Reports,
+    asked: Reports,
+) -> Result<Reports, NoMemory>
+    ensures { IfOk result (λ reports. reports ≡ ordered ((filter (selected options.now) repo.now.notes ++ plain) ++ asked)) }
 {
-    judge_indexed(alloc, &*repo, &*index, ruled, options, certs, steps)
+    let mut reports = noted(alloc, repo, options)?;
+    reports.append(plain)?;
+    reports.append(asked)?;
+    Ok(ordered(alloc, reports)?)
 }

@@ -16,4 +16,4 @@ pub mod PartReads
 pub mod PieceThere
 pub mod PartThere
 pub mod PartFolds
-pub mod NineNames
+pub mod TenNames

@@ -129,12 +129,16 @@ env_unset_incremental : is_incremental (codes "ENV_UNSET") ≡ true
 unfolding is_incremental incremental_names
 env_unset_incremental = refl
 
--- and no tenth: that the nine are all is the law of the names
-nine_names : length incremental_names ≡ 9
-unfolding incremental_names
-nine_names = refl
+accept_keywords_incremental : is_incremental (codes "ACCEPT_KEYWORDS") ≡ true
+unfolding is_incremental incremental_names
+accept_keywords_incremental = refl
 
-other_name : is_incremental (codes "ACCEPT_KEYWORDS") ≡ false
+-- and no eleventh: that the ten are all is the law of the names
+ten_names : length incremental_names ≡ 10
+unfolding incremental_names
+ten_names = refl
+
+other_name : is_incremental (codes "KEYWORDS") ≡ false
 unfolding is_incremental incremental_names
 other_name = refl
 

@@ -111,4 +111,5 @@ fn is_incremental(name: &[u8]) -> bool
         || name == b"USE_EXPAND_IMPLICIT".as_slice()
         || name == b"USE_EXPAND_UNPREFIXED".as_slice()
         || name == b"ENV_UNSET".as_slice()
+        || name == b"ACCEPT_KEYWORDS".as_slice()
 }

@@ -1,9 +1,11 @@
 //! Variables by name.
 //!
-//! `words` costs O(log n) comparisons of names for n variables and O(the bytes of the value), `copy` O(all bytes).
-ghost use Rattle.std.specs.Prelude.{◌≡◌, ◌++◌, IfOk, OnOk, OnErr};
+//! `words` costs O(log n) comparisons of names for n variables and O(the bytes of the value), `with` O(the bytes of its words),
+//! `copy` O(all bytes).
+ghost use Rattle.std.specs.Prelude.{◌≡◌, ◌++◌, true, IfOk, OnOk, OnErr};
 ghost use Rattle.std.specs.FinMap as finite;
 ghost use Rattle.std.specs.Option.{option_copied};
+ghost use Rattle.gv_defaults.specs.Incremental.{is_incremental};
 ghost use Rattle.gv_defaults.specs.Settings.{text_of, words_of};
 
 use crate::room::append_within;
@@ -65,6 +67,18 @@ impl Vars {
             alloc,
             map: BTreeMap::new(alloc),
         }
+    }
+
+    /// Just this variable, an incremental one, with these words.
+    pub fn with(alloc: Global, name: &[u8], words: &Texts) -> Result<Vars, NoMemory>
+        requires { is_incremental name.now ≡ true }
+        ensures { IfOk result (λ vars. vars ≡ finite.insert finite.empty name.now (Setting.Words words.now)) }
+    {
+        let mut vars = Vars::new(alloc);
+        let name = Vec::from_slice(alloc, name)?;
+        let words = words.copy(alloc)?;
+        vars.put(name, Setting::Words { words })?;
+        Ok(vars)
     }
 
     /// The words of a variable: those that an incremental one has, of another the parts of its value between spaces,

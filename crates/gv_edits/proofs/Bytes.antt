@@ -67,13 +67,13 @@ feed_there line rest = list_any-append (λ b. b == 10) line (10 ∷ rest) ∙ or
 drop_one_more : (line rest : List ℕ) → drop (length line + 1) (line ++ 10 ∷ rest) ≡ rest
 drop_one_more line rest = drop-append-add line (10 ∷ rest) 1
 
-feed_line : (line rest : List ℕ) → list_any (λ b. b == 10) line ≡ false → length line ≤ 4200 → first_line (line ++ 10 ∷ rest) ≡ Some (line, rest)
+pub feed_line : (line rest : List ℕ) → list_any (λ b. b == 10) line ≡ false → length line ≤ 4200 → first_line (line ++ 10 ∷ rest) ≡ Some (line, rest)
 feed_line line rest none few =
     let up : up_to_first 10 (line ++ 10 ∷ rest) ≡ line = up_behind line (10 ∷ rest) none ∙ ap (λ xs. line ++ xs) (up_step 10 rest) ∙ append-nil line in
     let small : nat_le (length line) 4200 ≡ true = grind arith in
     rw (feed_there line rest, up, small, drop_one_more line rest) refl
 
-no_feed : (bytes : List ℕ) → list_any (λ b. b == 10) bytes ≡ false → first_line bytes ≡ None
+pub no_feed : (bytes : List ℕ) → list_any (λ b. b == 10) bytes ≡ false → first_line bytes ≡ None
 no_feed bytes none = rw none refl
 
 long_line : (line rest : List ℕ) → list_any (λ b. b == 10) line ≡ false → 4200 < length line → first_line (line ++ rest) ≡ None

@@ -1,4 +1,6 @@
 -- What was read of a command, and the bytes behind it.
+-- Each reading function has one equation between what its definition makes of the bytes before, and what it read with
+-- the bytes behind it (`and_rest`). Two such equations compose by a short lemma.
 use Rattle.std.proofs.Common.{◌≡◌, ◌<◌, ◌-◌, ◌+◌, ◌==◌, ℕ, suc, List, [], ◌++◌, true, false, length, take, drop, Some, None, refl, sym, ap, ◌∙◌, arith}
 use Rattle.std.specs.Prelude.{Option, IfSome, option_map, nat_lt}
 use Rattle.std.specs.Option.{option_and_then}
@@ -62,7 +64,7 @@ end_completed None = refl
 end_completed (Some bytes) = refl
 
 -- ---- the bytes of a put
-content_then : (text rest : List ℕ) (size : ℕ) → length text ≡ size → first_content size (text ++ rest) ≡ before_feed text rest
+pub content_then : (text rest : List ℕ) (size : ℕ) → length text ≡ size → first_content size (text ++ rest) ≡ before_feed text rest
 content_then text rest size len = rw (sym len, take-append_seam text rest, drop-append_seam text rest) refl
 
 pub too_few : (told t : Option (List ℕ)) (size : ℕ) → option_map (λ bytes. nat_lt (length bytes) size) told ≡ option_map (λ _. true) t → option_map (first_content size) told ≡ option_map (and_rest None) t

@@ -13,7 +13,7 @@ use Rattle.gv_edits.specs.declared.edit.Edit.TheVariants.{Put, Cut}
 use Rattle.gv_edits.specs.declared.edits.Done.{Done}
 use Rattle.gv_edits.specs.Edits.{after_edit}
 use Rattle.gv_edits.specs.Kept.{put_files, after_cut, cut_paths, is_short, are_short, edit_with, edit_of}
-use Rattle.gv_edits.proofs.Folders.{equal_bytes, and_both}
+use Rattle.gv_base.specs.Folders.{equal_bytes, and_both}
 
 pub put_then : (puts : FileMap) (path bytes : List ℕ) → edit_of path (insert puts path bytes) ≡ Put path bytes
 put_then puts path bytes =

@@ -1,12 +1,12 @@
 -- What is left at and below a path that was listed.
-use Rattle.std.proofs.Common.{◌≡◌, ◌<◌, ◌≤◌, ◌+◌, ℕ, List, [], ◌∷◌, ◌++◌, Bool, true, false, ◌&&◌, ◌||◌, length, Some, None, refl, sym, ap, subst, ◌∙◌, inl, inr, ◌⊎◌, arith, length-append}
-use Rattle.std.specs.Prelude.{Option, nat_le}
+use Rattle.std.proofs.Common.{◌≡◌, ℕ, List, [], ◌∷◌, ◌++◌, Bool, true, false, ◌&&◌, ◌||◌, Some, None, refl, sym, ap, subst, ◌∙◌, inl, inr, ◌⊎◌}
+use Rattle.std.specs.Prelude.{Option}
 use Rattle.std.specs.List.{list_all, filter_map}
 use Rattle.std.specs.Option.{is_some}
 use Rattle.std.specs.Str.{bytes_eq}
 use Rattle.std.specs.FinMap.{get, keys, contains_key}
 use Rattle.std.specs.Cmp.{both_ways}
-use Rattle.std.proofs.lemmas.List.Folds.{list_any-append, list_all-append}
+use Rattle.std.proofs.lemmas.List.Folds.{list_any-append}
 use Rattle.std.proofs.lemmas.Slice.Eq.{bytes_eq-Decides}
 use Rattle.gv_base.specs.FileMap.{FileMap}
 use Rattle.gv_base.specs.Cut.{up_to_first}
@@ -15,10 +15,10 @@ use Rattle.gv_base.specs.Order.{has_text}
 use Rattle.gv_base.specs.Laws.{InOrderLaw}
 use Rattle.gv_edits.specs.declared.inner.Kind.TheVariants.{File, Dir, Absent}
 use Rattle.gv_edits.specs.declared.edit.Edit.{Edit}
-use Rattle.gv_edits.specs.Inner.{kind_as, kind_at, is_deep, are_deep}
+use Rattle.gv_edits.specs.Inner.{kind_as, kind_at}
 use Rattle.gv_edits.specs.Kept.{cut_paths}
 use Rattle.gv_edits.specs.Edited.{within, stands, uncut, any_folder, any_stands, all_stand}
-use Rattle.gv_edits.proofs.Folders.{or_first, or_second, and_both, and_first, and_second, or_cases, folder_from, folder_to, found_in, in_found, name_stands, is_one, Split, split_part, up_up, within_within}
+use Rattle.gv_base.specs.Folders.{or_first, or_second, and_both, and_first, and_second, or_cases, folder_from, folder_to, found_in, in_found, name_stands, is_one, Split, split_part, up_up, within_within}
 use Rattle.gv_edits.proofs.Overlays.{uncut_same, uncut_none}
 
 kind_file : (o : Option (List ℕ)) (b : Bool) → File ≡ kind_as o b → is_some o ≡ true
@@ -92,30 +92,10 @@ listed_folder law u m path names more is = both_ways (is_folder u path) (any_sta
     back : any_stands u path names ≡ true → is_folder u path ≡ true
     back h = let n = found_in (λ name. stands u (within path name)) names h in below n.0 (or_cases (is_some (get u (within path n.0))) (is_folder u (within path n.0)) n.2)
 
--- ---- steps of the search, as truth values
-pub here_step : (a b w : Bool) → (a || (true || b)) ≡ w → (true || a) ≡ w
-here_step true b w h = h
-here_step false b w h = h
-
-pub maybe_step : (a f b w : Bool) → (a || (f || b)) ≡ w → ((a || (f || false)) || b) ≡ w
-maybe_step true f b w h = h
-maybe_step false true b w h = h
-maybe_step false false b w h = h
-
-pub any_one_more : (u : FileMap) (next : List (List ℕ)) (path : List ℕ) → any_folder u (next ++ path ∷ []) ≡ (any_folder u next || (is_folder u path || false))
-any_one_more u next path = list_any-append (is_folder u) next (path ∷ [])
-
-pub deep_one_more : (depth : ℕ) (next : List (List ℕ)) (path name : List ℕ) → depth ≤ length path → length (within path name) ≤ 4096 → are_deep (depth + 1) next ≡ true → are_deep (depth + 1) (next ++ within path name ∷ []) ≡ true
-deep_one_more depth next path name h short all =
-    let low : nat_le (depth + 1) (length (within path name)) ≡ true = grind (arith, length-append) in
-    let high : nat_le (length (within path name)) 4096 ≡ true = grind arith in
-    list_all-append (is_deep (depth + 1)) next (within path name ∷ []) ∙ and_both _ _ all (rw (low, high) refl)
-
--- no path is so deep and so short
-pub too_deep : (u : FileMap) (depth : ℕ) (level : List (List ℕ)) → 4096 < depth → are_deep depth level ≡ true → any_folder u level ≡ false
-too_deep u depth [] h all = refl
-too_deep u depth (path ∷ level) h all =
-    let one : is_deep depth path ≡ true = and_first (is_deep depth path) (are_deep depth level) all in
-    let low : nat_le depth (length path) ≡ true = and_first (nat_le depth (length path)) (nat_le (length path) 4096) one in
-    let high : nat_le (length path) 4096 ≡ true = and_second (nat_le depth (length path)) (nat_le (length path) 4096) one in
-    absurd (grind arith)
+-- ---- what is ahead in a search
+pub any_one_more : (u : FileMap) (ahead : List (List ℕ)) (path : List ℕ) → any_folder u (ahead ++ path ∷ []) ≡ (any_folder u ahead || is_folder u path)
+any_one_more u ahead path = list_any-append (is_folder u) ahead (path ∷ []) ∙ ap (λ b. any_folder u ahead || b) (or_false (is_folder u path))
+  where
+    or_false : (b : Bool) → (b || false) ≡ b
+    or_false true = refl
+    or_false false = refl

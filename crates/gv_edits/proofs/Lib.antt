@@ -1,7 +1,8 @@
+pub mod Bounds
 pub mod Bytes
 pub mod Commands
 pub mod Dones
-pub mod Folders
+pub mod Heads
 pub mod Inners
 pub mod Lefts
 pub mod Lists

@@ -1,4 +1,6 @@
 -- Which names lie below a path of the edited files.
+-- A listed name is kept unless something at it or below it was cut and `read` of the edited files finds nothing there:
+-- a name lies below a path where something stands at its own path (`name_stands` in `Folders`).
 use Rattle.std.proofs.Common.{◌≡◌, ℕ, List, ◌++◌, Bool, true, false, ◌&&◌, ◌||◌, Some, None, refl, sym, ap, ◌∙◌}
 use Rattle.std.specs.Prelude.{Option, IfSome, filter}
 use Rattle.std.specs.List.{filter_map}
@@ -21,7 +23,7 @@ use Rattle.gv_edits.specs.Inner.{IsTold, told_files}
 use Rattle.gv_edits.specs.Edits.{edited, edited_told}
 use Rattle.gv_edits.specs.Kept.{put_files, cut_paths}
 use Rattle.gv_edits.specs.Edited.{within, stands, uncut, is_anything}
-use Rattle.gv_edits.proofs.Folders.{or_first, or_second, is_one, name_stands, stands_more}
+use Rattle.gv_base.specs.Folders.{or_first, or_second, is_one, name_stands, stands_more}
 use Rattle.gv_edits.proofs.Overlays.{uncut_same, uncut_more, no_cut_below, stands-edited}
 use Rattle.gv_edits.proofs.Lefts.{listed_name}
 

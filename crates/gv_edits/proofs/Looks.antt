@@ -1,4 +1,6 @@
 -- What is at a path of the edited files.
+-- A folder stays where the tree has one, unless a cut lies below it and no put does. Then the tree is searched for a
+-- file that wasn't cut (`Lefts`).
 use Rattle.std.proofs.Common.{◌≡◌, ℕ, List, [], ◌∷◌, Bool, true, false, not, ◌||◌, length, Some, None, refl, sym, ap, ◌∙◌, arith}
 use Rattle.std.specs.Prelude.{Option, IfSome, ◌==◌}
 use Rattle.std.specs.FinMap.{get, contains_key}
@@ -15,7 +17,7 @@ use Rattle.gv_edits.specs.Inner.{IsTold, told_files, kind_as, kind_at}
 use Rattle.gv_edits.specs.Edits.{edited, edited_told}
 use Rattle.gv_edits.specs.Kept.{put_files, cut_paths}
 use Rattle.gv_edits.specs.Edited.{uncut, any_stands, all_stand}
-use Rattle.gv_edits.proofs.Folders.{or_first, and_first, folder_more}
+use Rattle.gv_base.specs.Folders.{or_first, and_first, folder_more}
 use Rattle.gv_edits.proofs.Overlays.{uncut_same, uncut_none, uncut_more, no_cut_below, folder-edited, put-edited, uncut-edited}
 use Rattle.gv_edits.proofs.Lefts.{listed_stand, listed_folder}
 

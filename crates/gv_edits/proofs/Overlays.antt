@@ -1,4 +1,6 @@
 -- The files of an edited map are those that were put and those that the cuts left.
+-- A file of the edited map is one that was put, or one of the map's that wasn't cut (`get-edited`), so its folders are
+-- those of the one or the other (`folder-edited`).
 use Rattle.std.proofs.Common.{◌≡◌, ◌<◌, ◌≤◌, ℕ, List, [], ◌∷◌, Bool, true, false, not, ◌||◌, cond, length, Some, None, refl, sym, ap, subst, ◌∙◌, arith, length-append}
 use Rattle.std.specs.Prelude.{Option, fold, nat_le}
 use Rattle.std.specs.Option.{is_some}
@@ -16,7 +18,7 @@ use Rattle.gv_edits.specs.declared.edit.Edit.TheVariants.{Put, Cut}
 use Rattle.gv_edits.specs.Edits.{after_edit, edited}
 use Rattle.gv_edits.specs.Kept.{put_files, after_cut, cut_paths, is_short, are_short}
 use Rattle.gv_edits.specs.Edited.{within, stands, uncut}
-use Rattle.gv_edits.proofs.Folders.{and_first, and_second, folder_from, folder_to, folder_either, folder_more}
+use Rattle.gv_base.specs.Folders.{and_first, and_second, folder_from, folder_to, folder_either, folder_more}
 
 abbrev or_else : {X : Type 0} → Option X → Option X → Option X
 or_else (Some x) o = Some x

@@ -1,5 +1,5 @@
 -- The commands of the script of a session (a format of this project).
-use Rattle.std.specs.Prelude.{ℕ, ◌==◌, nat_le, List, [], ◌∷◌, Bool, ◌&&◌, if◌then◌else◌, length, take, drop, codes, Option, Some, None}
+use Rattle.std.specs.Prelude.{◌≡◌, ◌≤◌, ℕ, ◌==◌, nat_le, true, List, [], ◌∷◌, Bool, ◌&&◌, if◌then◌else◌, length, take, drop, codes, Option, Some, None}
 use Rattle.std.specs.Option.{option_map, option_and_then}
 use Rattle.std.specs.Str.{bytes_eq}
 use Rattle.gv_base.specs.Paths.{is_path}
@@ -49,3 +49,10 @@ behind_line line bytes = option_and_then (λ b. completed b bytes) (begun_by (wo
 -- the first command, and the bytes behind it: none where it is bad or none begins
 abbrev pub first_command : List ℕ → Option (Command × List ℕ)
 first_command bytes = option_and_then (λ l. behind_line l.0 l.1) (first_line bytes)
+
+-- the path and the bytes of a command are as short as those of an edit
+abbrev pub IsBounded : Command → Type 0
+IsBounded (Put path bytes) = (is_edit_path path ≡ true) × (length bytes ≤ 16777216)
+IsBounded (Cut path) = is_edit_path path ≡ true
+IsBounded Report = Unit {0}
+IsBounded End = Unit {0}

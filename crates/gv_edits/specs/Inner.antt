@@ -1,6 +1,5 @@
 -- Words of private contracts: what can be seen of a tree below, where its files are told.
-use Rattle.std.specs.Prelude.{◌≡◌, ℕ, List, Bool, true, false, nat_le, ◌&&◌, length, Option, Some, None, unwrap_or}
-use Rattle.std.specs.List.{list_all}
+use Rattle.std.specs.Prelude.{◌≡◌, ℕ, List, Bool, true, false, Option, Some, None, unwrap_or}
 use Rattle.std.specs.Option.{is_some}
 use Rattle.std.specs.FinMap.{empty, get}
 use Rattle.gv_base.specs.FileMap.{FileMap}
@@ -32,10 +31,3 @@ kind_as None false = Absent
 
 abbrev pub kind_at : FileMap → List ℕ → Kind
 kind_at files path = kind_as (get files path) (is_folder files path)
-
--- the paths have at least so many bytes and at most 4,096
-abbrev pub is_deep : ℕ → List ℕ → Bool
-is_deep depth path = nat_le depth (length path) && nat_le (length path) 4096
-
-abbrev pub are_deep : ℕ → List (List ℕ) → Bool
-are_deep depth paths = list_all (is_deep depth) paths

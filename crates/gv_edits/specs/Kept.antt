@@ -1,4 +1,6 @@
 -- Words of private contracts: what is kept of edits.
+-- `Edits` keeps two maps: the files that were put and not cut since (`put_files`), and the paths that were cut and not
+-- put since (`cut_paths`). Whether a put or a cut lies below a path is one look-up in a map.
 use Rattle.std.specs.Prelude.{ℕ, List, [], Bool, ◌&&◌, nat_le, length, fold, Option, Some, None}
 use Rattle.std.specs.List.{list_all}
 use Rattle.std.specs.FinMap.{empty, get, insert, remove}

@@ -1,5 +1,7 @@
 -- The script of a session (a format of this project): which commands it has, and how it ends.
-use Rattle.std.specs.Prelude.{ℕ, ◌-◌, zero, suc, List, [], ◌∷◌, Option, Some, None}
+-- The definition of a script is a function of all bytes, and so are those of its lines, lengths and commands (`Line`,
+-- `Length`, `Command`); the reader takes pieces of any size.
+use Rattle.std.specs.Prelude.{◌≡◌, ℕ, ◌-◌, zero, suc, List, [], ◌∷◌, ◌++◌, Option, Some, None}
 use Rattle.std.specs.Option.{option_map}
 use Rattle.gv_edits.specs.declared.command.Command.{Command}
 use Rattle.gv_edits.specs.declared.command.Command.TheVariants.{Put, Cut, Report, End}
@@ -51,3 +53,20 @@ pub record Reading : Type 0 where
 -- what is left of the script, where the bytes that are left are told
 unfoldable pub script_left : Reading → Option (List ℕ) → Option Script
 script_left reading left = option_map (script_within (1000000 - reading.read)) (whole reading.taken left)
+
+-- ---- what reading takes of the source
+
+-- These bytes of what was taken before and of more that was taken spell a command, whatever comes behind them; those behind them weren't
+-- read yet.
+pub record Leads (before now : Reading) (left left' : Option (List ℕ)) (command : Command) : Type 0 where
+  pub bytes : List ℕ
+  pub more : List ℕ
+  pub took : left ≡ whole more left'
+  pub are : before.taken ++ more ≡ bytes ++ now.taken
+  pub spell : (most : ℕ) (rest : List ℕ) → script_within (suc most) (bytes ++ rest) ≡ led_script command (script_within most rest)
+
+-- what was taken before and more that was taken begin with no whole command
+pub record Lacks (before : Reading) (left left' : Option (List ℕ)) : Type 0 where
+  pub more : List ℕ
+  pub took : left ≡ whole more left'
+  pub none : (most : ℕ) → script_within (suc most) (before.taken ++ more) ≡ without_commands Broken

@@ -1,11 +1,11 @@
 //! The lines of the script of a session, and the words of a line.
 //!
 //! A line costs O(its bytes).
-ghost use Rattle.std.specs.Prelude.{◌≡◌, ◌≤◌, ◌++◌, ◌∷◌, [], IfNone, IfOk, OnOk, IsErrOf, MatchOption, option_map};
+ghost use Rattle.std.specs.Prelude.{◌≡◌, ◌≤◌, ◌++◌, ◌∷◌, ℕ, List, [], IfNone, IfSome, IfOk, OnOk, IsErrOf, MatchOption, option_map};
 ghost use Rattle.gv_base.specs.Causes.{Rose};
 ghost use Rattle.gv_edits.specs.Line.{first_line, words_of_line};
 ghost use Rattle.gv_edits.specs.Pending.{whole};
-ghost use Rattle.gv_edits.specs.Reading.{and_rest, words_left};
+ghost use Rattle.gv_edits.specs.Reading.{Finds, FindsNone, and_rest, words_left};
 
 use crate::pending::{Pending, ReadFault};
 use gv_base::{NoMemory, Source, Text, Texts, until};
@@ -14,14 +14,17 @@ use std::alloc::Global;
 // The most bytes of a line, without its line feed.
 const MAX_LINE_BYTES: u32 = 4200;
 
-/// The next line, and `None` exactly where no line feed is left, or more than 4,200 bytes stand before the first. It takes
+/// The next line, and `None` exactly where no line feed is left, or more than 4,200 bytes stand before the first. It reads
 /// no more bytes than it must to know that.
+#[tactic(auto, using(crate::proofs::Heads::reads_nothing, crate::proofs::Heads::line_lacks))]
 pub(crate) fn read_line<I: Source>(
     alloc: Global,
     pending: &mut Pending,
     input: &mut I,
 ) -> Result<Option<Text>, ReadFault>
     ensures line { IfOk result (λ line. option_map first_line (whole pending.old (I.left input.old)) ≡ option_map (and_rest line) (whole pending.new (I.left input.new))) }
+    ensures finds { IfOk result (λ line. IfSome line (Finds (List ℕ) first_line pending.old (I.left input.old) pending.new (I.left input.new))) }
+    ensures lacks { IsErrOf result ReadFault.Failed → FindsNone (List ℕ) first_line pending.old (I.left input.old) (I.left input.new) }
     ensures later { I.faults input.old ≤ I.faults input.new }
     ensures calm { OnOk result (I.faults input.new ≡ I.faults input.old) }
     ensures failed { IsErrOf result ReadFault.Failed → Rose (I.faults input.old) (I.faults input.new) }

@@ -7,7 +7,8 @@ use Rattle.gv_logic.specs.Literals.{opposite, lit_true, clause_true, AllTrue}
 use Rattle.gv_logic.specs.Circuits.{Gate, Circuit, at, all_lits_true, op_value, gate_value, values_from, values, AreEarlier, IsCircuit}
 use Rattle.gv_logic.specs.Encoding.{op_clauses, gate_clauses, clauses_from}
 use Rattle.gv_encode.specs.Extends.{Extends}
-use Rattle.gv_encode.proofs.Truth.{lit_opposite, even_lit, odd_lit, opposites_true}
+use Rattle.gv_logic.specs.Opposites.{lit_opposite, even_lit, odd_lit}
+use Rattle.gv_encode.proofs.Truth.{opposites_true}
 use Rattle.gv_encode.proofs.Values.{value_stable}
 
 pub left_true : (v : ℕ → Bool) (a b : List (List ℕ)) → AllTrue v (a ++ b) → AllTrue v a

@@ -2,7 +2,7 @@
 use Rattle.std.proofs.Common.{◌≡◌, ℕ, suc, zero, ◌*◌, ◌<◌, ◌≤◌, List, [], ◌∷◌, map, take, arith}
 use Rattle.std.specs.List.{AllByRecursion}
 use Rattle.gv_logic.specs.Literals.{opposite}
-use Rattle.gv_encode.proofs.Truth.{opposite_below}
+use Rattle.gv_logic.specs.Opposites.{opposite_below}
 
 pub named_more : (p q : ℕ) (ls : List ℕ) → p ≤ q → AllByRecursion (λ l. l < 2 * p) ls → AllByRecursion (λ l. l < 2 * q) ls
 named_more p q [] le a = tt

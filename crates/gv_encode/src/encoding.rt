@@ -47,7 +47,7 @@ fn add_pairs(clauses: &mut Clauses, first: Lit, lits: &[Lit]) -> Result<(), NoMe
 }
 
 // For each literal the clause of `first` and its opposite.
-#[tactic(auto, using(crate::proofs::Truth::opposite_below))]
+#[tactic(auto, using(gv_logic::specs::Opposites::opposite_below))]
 fn add_opposite_pairs(clauses: &mut Clauses, first: Lit, lits: &[Lit]) -> Result<(), NoMemory>
     requires first { first < 2 * clauses.old.variables }
     requires named { AllByRecursion (λ l. l < 2 * clauses.old.variables) lits.now }

@@ -19,7 +19,8 @@ use Rattle.gv_facts.specs.declared.profile.Profile.{Profile}
 use Rattle.gv_facts.specs.declared.rules.Effect.{Effect}
 use Rattle.gv_facts.specs.declared.rules.Effect.TheVariants.{Force, Mask}
 use Rattle.gv_facts.specs.declared.rules.Rule.{Rule}
-use Rattle.gv_entry.specs.Allowed.{Parent, agrees, assignment, class_holds, first_failing, is_allowed, is_failing, query_flags, required_holds}
+use Rattle.gv_facts.specs.Preferred.{preferred}
+use Rattle.gv_entry.specs.Allowed.{Parent, agrees, assignment, bits_of, class_holds, first_failing, is_allowed, is_failing, query_flags, required_holds, values_by}
 use Rattle.gv_entry.specs.Details.{kind_text, token_detail}
 use Rattle.gv_entry.specs.Digests.{digest_in, eclasses_of}
 use Rattle.gv_entry.specs.EntryValues.{value_of, slot_of}
@@ -123,6 +124,7 @@ profile = record {
   arch = codes "amd64";
   path = codes "base";
   status = statuses.Stable;
+  testing = false;
   iuse_implicit = [];
   expand = [];
   expand_implicit = [];
@@ -239,6 +241,26 @@ weight_at required class = elim (read_required required) [ Some rs ↦ option_ma
 -- 4 tokens and 6; two packages, each one and its two items; two more by themselves; nothing for a blocker
 weight_of : weight_at (codes "a? ( b )") (codes "x/y[a,-b] || ( x/y !x/y[a] )") ≡ Some 18
 weight_of = refl
+
+-- app/p-1 where it prefers a on
+abbrev preferring_pkg : Pkg
+preferring_pkg = record (pkg_of (codes "app") (codes "p") (codes "1") Eight (codes "a" ∷ codes "b" ∷ [])) { iuse_plus = codes "a" ∷ [] }
+
+abbrev preferring : Parent
+preferring = record { pkg = preferring_pkg; profile = profile; level = levels.Stable; among = preferring_pkg ∷ [] }
+
+abbrev preferred_bits : List Bool → List ℕ → Bool
+preferred_bits bits flag = assignment preferring (codes "a" ∷ codes "b" ∷ []) bits flag
+
+-- a bit says that the flag hasn't its preferred value
+preferred_values : (preferred_bits (false ∷ false ∷ []) (codes "a") ≡ true) × (preferred_bits (true ∷ false ∷ []) (codes "a") ≡ false) × (preferred_bits (false ∷ true ∷ []) (codes "b") ≡ true)
+    × (bits_of preferring_pkg (codes "a" ∷ codes "b" ∷ []) on ≡ false ∷ true ∷ []) × (bits_of preferring_pkg (codes "a" ∷ codes "b" ∷ []) off ≡ true ∷ false ∷ [])
+    × (values_by (preferred preferring_pkg (codes "a" ∷ codes "b" ∷ [])) (false ∷ true ∷ []) ≡ true ∷ true ∷ [])
+preferred_values = (refl, refl, refl, refl, refl, refl)
+
+-- where a is on as it is preferred, b has to be on
+least_deviation : option_map (λ ds. least (is_failing preferring [] ds (codes "a" ∷ codes "b" ∷ [])) 2) (read_dep (codes "!a? ( x/none ) b? ( x/none )")) ≡ Some (Some (false ∷ true ∷ []))
+least_deviation = refl
 
 -- off before on, flag by flag
 least_of_two : least (λ bits. one_of false bits) 2 ≡ Some (false ∷ true ∷ [])

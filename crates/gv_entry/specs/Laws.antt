@@ -13,7 +13,8 @@ use Rattle.gv_facts.specs.declared.kinds.Level.{Level}
 use Rattle.gv_facts.specs.declared.pkg.Pkg.{Pkg}
 use Rattle.gv_facts.specs.declared.profile.Profile.{Profile}
 use Rattle.gv_facts.specs.AtomMet.{atom_met}
-use Rattle.gv_entry.specs.Allowed.{Allowed, Failing, IsFit, Parent, assignment, is_allowed, is_failing, item_holds, query_flags}
+use Rattle.gv_facts.specs.Preferred.{preferred}
+use Rattle.gv_entry.specs.Allowed.{Allowed, Failing, IsFit, Parent, assignment, bits_of, is_allowed, is_failing, item_holds, query_flags, values_by}
 use Rattle.gv_entry.specs.Digests.{digest_in, hex_digit}
 use Rattle.gv_entry.specs.EntryValues.{value_of}
 use Rattle.gv_entry.specs.Holds.{deps_hold, reqs_hold}
@@ -34,12 +35,15 @@ pub record MentionsLaw : Type 0 where
   pub items : (c : Parent) (class : List Dep) (on other : List ℕ → Bool) → Agree on other (dep_mentions (deps class))
       → map (item_holds c on) class ≡ map (item_holds c other) class
 
--- Bits of a query's flags stand for an assignment that fits the flags' states; and an assignment that fits them is, at
--- every flag that was mentioned, that of its own bits.
+-- Bits of a query's flags, which say of each whether it hasn't its preferred value, stand for an assignment that fits the
+-- flags' states and has the values that the bits say; and an assignment that fits them is, at every flag that was mentioned, that
+-- of its own bits.
 pub record BitsLaw : Type 0 where
   pub fit : (c : Parent) (mentions : List (List ℕ)) (bits : List Bool) → IsFit c (assignment c (query_flags c mentions) bits)
   pub agree : (c : Parent) (mentions : List (List ℕ)) (on : List ℕ → Bool) → IsFit c on
-      → Agree on (assignment c (query_flags c mentions) (map on (query_flags c mentions))) mentions
+      → Agree on (assignment c (query_flags c mentions) (bits_of c.pkg (query_flags c mentions) on)) mentions
+  pub values : (c : Parent) (mentions : List (List ℕ)) (bits : List Bool) → length bits ≡ length (query_flags c mentions)
+      → map (assignment c (query_flags c mentions) bits) (query_flags c mentions) ≡ values_by (preferred c.pkg (query_flags c mentions)) bits
 
 -- Bits pass the test exactly where their assignment is allowed, and an assignment that fits the states is allowed exactly
 -- where its bits of a query's flags pass: its other flags make no difference.
@@ -47,18 +51,18 @@ pub record AllowedLaw : Type 0 where
   pub bits : (c : Parent) (required : List Req) (mentions : List (List ℕ)) (bits : List Bool)
       → (is_allowed c required (query_flags c mentions) bits ≡ true) ↔ Allowed c required (assignment c (query_flags c mentions) bits)
   pub of_required : (c : Parent) (required : List Req) (on : List ℕ → Bool) → IsFit c on
-      → (is_allowed c required (required_flags c required) (map on (required_flags c required)) ≡ true) ↔ Allowed c required on
+      → (is_allowed c required (required_flags c required) (bits_of c.pkg (required_flags c required) on) ≡ true) ↔ Allowed c required on
   pub of_class : (c : Parent) (required : List Req) (class : List Dep) (on : List ℕ → Bool) → IsFit c on
-      → (is_allowed c required (class_flags c required class) (map on (class_flags c required class)) ≡ true) ↔ Allowed c required on
+      → (is_allowed c required (class_flags c required class) (bits_of c.pkg (class_flags c required class) on) ≡ true) ↔ Allowed c required on
 
 -- The same of failing, and each top item of the class holds alike under the assignment and under that of its bits.
 pub record FailingLaw : Type 0 where
   pub bits : (c : Parent) (required : List Req) (class : List Dep) (mentions : List (List ℕ)) (bits : List Bool)
       → (is_failing c required class (query_flags c mentions) bits ≡ true) ↔ Failing c required class (assignment c (query_flags c mentions) bits)
   pub of_class : (c : Parent) (required : List Req) (class : List Dep) (on : List ℕ → Bool) → IsFit c on
-      → (is_failing c required class (class_flags c required class) (map on (class_flags c required class)) ≡ true) ↔ Failing c required class on
+      → (is_failing c required class (class_flags c required class) (bits_of c.pkg (class_flags c required class) on) ≡ true) ↔ Failing c required class on
   pub items : (c : Parent) (required : List Req) (class : List Dep) (on : List ℕ → Bool) → IsFit c on
-      → map (item_holds c on) class ≡ map (item_holds c (assignment c (class_flags c required class) (map on (class_flags c required class)))) class
+      → map (item_holds c on) class ≡ map (item_holds c (assignment c (class_flags c required class) (bits_of c.pkg (class_flags c required class) on))) class
 
 -- What is found among all lists of bits is lesser than every other that passes the test, and nothing is found only where
 -- none passes.

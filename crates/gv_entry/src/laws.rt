@@ -14,8 +14,9 @@ pub fn mentions_law()
     ensures { law.MentionsLaw }
 {}
 
-/// Bits of a query's flags stand for an assignment that fits the flags' states, and an assignment that fits them is, at
-/// every flag that was mentioned, that of its own bits.
+/// Bits of a query's flags, which say of each whether it hasn't its preferred value, stand for an assignment that fits the
+/// flags' states and has the values that they say; and an assignment that fits them is, at every flag that was mentioned, that
+/// of its own bits.
 #[tactic(auto, using(crate::proofs::QueryLaw::bits_are))]
 pub fn bits_law()
     ensures { law.BitsLaw }
@@ -51,6 +52,7 @@ pub fn least_law()
 pub fn least_allowed_law()
     ensures { (c : Parent) (required : List Req) → law.LeastAllowedLaw c required }
 {
+    bits_law();
     allowed_law();
     least_law();
 }
@@ -59,6 +61,7 @@ pub fn least_allowed_law()
 pub fn least_failing_law()
     ensures { (c : Parent) (required : List Req) (class : List Dep) → law.LeastFailingLaw c required class }
 {
+    bits_law();
     failing_law();
     least_law();
 }

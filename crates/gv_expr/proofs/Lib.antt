@@ -7,13 +7,16 @@ mod DepSteps
 mod Depths
 mod Examples
 mod Faults
+mod Gathering
 mod Groups
 mod Limits
+mod MentionedFlags
 mod ReqFaults
 mod ReqFound
 mod ReqLaw
 mod ReqReadAgain
 mod ReqSteps
+mod SameDeps
 mod Signs
 mod SpacedLemmas
 mod Steps

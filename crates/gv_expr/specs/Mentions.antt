@@ -1,5 +1,6 @@
 -- The parent's flags that an expression mentions, and its atoms.
 use Rattle.std.specs.Prelude.{ℕ, List, [], ◌∷◌, ◌++◌, map, filter}
+use Rattle.std.specs.Borrow.{Bor}
 use Rattle.gv_base.specs.Order.{in_order}
 use Rattle.gv_atom.specs.declared.atom.Atom.{Atom}
 use Rattle.gv_atom.specs.declared.atom.Block.{Block}
@@ -51,3 +52,7 @@ wanted_atoms (dep.more (dep.leaf atom) rest) = with_atom atom atom.block (wanted
 wanted_atoms (dep.more (dep.all items) rest) = wanted_atoms items ++ wanted_atoms rest
 wanted_atoms (dep.more (dep.any items) rest) = wanted_atoms items ++ wanted_atoms rest
 wanted_atoms (dep.more (dep.when flag negated items) rest) = wanted_atoms items ++ wanted_atoms rest
+
+-- borrowed texts
+abbrev pub texts_of : List (Bor (List ℕ)) → List (List ℕ)
+texts_of texts = map (λ (t : Bor (List ℕ)). t.now) texts

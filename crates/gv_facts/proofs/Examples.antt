@@ -19,6 +19,7 @@ use Rattle.gv_facts.specs.declared.rules.Effect.TheVariants.{Force, Mask}
 use Rattle.gv_facts.specs.Classes.{has_class}
 use Rattle.gv_facts.specs.Effective.{effective, is_effective}
 use Rattle.gv_facts.specs.Places.{places_of}
+use Rattle.gv_facts.specs.Preferred.{preferred, preferred_on}
 use Rattle.gv_facts.specs.States.{is_restricted, state}
 use Rattle.gv_facts.specs.Visible.{judged, visible}
 use Rattle.gv_facts.specs.AtomMet.{atom_met}
@@ -57,6 +58,7 @@ base_with rules = record {
   arch = codes "amd64";
   path = codes "base";
   status = statuses.Stable;
+  testing = false;
   iuse_implicit = codes "prefix" ∷ codes "a" ∷ [];
   expand = codes "PYTHON_TARGETS" ∷ codes "ELIBC" ∷ [];
   expand_implicit = codes "ELIBC" ∷ codes "ARCH" ∷ [];
@@ -108,8 +110,23 @@ judged_levels : (judged stable_pkg (base_with []) ≡ Some levels.Stable) × (ju
     × (judged (y_with (codes "-*" ∷ codes "x86" ∷ [])) (base_with []) ≡ None)
 judged_levels = (refl, refl, refl)
 
+-- in a profile that accepts `~amd64`
+abbrev accepting : Profile
+accepting = record (base_with []) { testing = true }
+
+judged_at_testing : (judged stable_pkg accepting ≡ Some levels.Testing) × (judged (y_with (codes "~amd64" ∷ [])) accepting ≡ Some levels.Testing)
+    × (judged (y_with (codes "-*" ∷ codes "x86" ∷ [])) accepting ≡ None)
+judged_at_testing = (refl, refl, refl)
+
 seen : (visible (y_with (codes "~amd64" ∷ [])) (base_with []) levels.Stable ≡ false) × (visible (y_with (codes "~amd64" ∷ [])) (base_with []) levels.Testing ≡ true)
 seen = (refl, refl)
+
+-- IUSE has a with `+`
+abbrev preferring : Pkg
+preferring = record stable_pkg { iuse_plus = codes "a" ∷ [] }
+
+preferred_flags : (map (preferred_on preferring) (codes "a" ∷ codes "b" ∷ codes "z" ∷ []) ≡ true ∷ false ∷ false ∷ []) × (preferred stable_pkg (codes "a" ∷ codes "b" ∷ []) ≡ false ∷ false ∷ [])
+preferred_flags = (refl, refl)
 
 -- Masks.
 

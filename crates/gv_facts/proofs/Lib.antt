@@ -1,4 +1,5 @@
 mod Examples
 mod IndexLemmas
+mod JudgedLaw
 mod MeetsLaw
 mod PlacesLemmas

@@ -3,6 +3,7 @@ pub mod Classes
 pub mod Effective
 pub mod Index
 pub mod Places
+pub mod Preferred
 pub mod States
 pub mod Values
 pub mod Visible

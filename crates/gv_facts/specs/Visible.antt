@@ -28,9 +28,9 @@ is_masked p masks = list_any (λ m. matches_pkg m.atom p) masks
 abbrev pub visible : Pkg → Profile → Level → Bool
 visible p profile level = accepts level profile.arch p.keywords && not (is_masked p profile.masks)
 
--- the level at which the package is judged, if it is
+-- the level at which the package is judged, if it is: in a profile that accepts the arch with `~` at testing alone
 abbrev pub judged : Pkg → Profile → Option Level
 judged p profile =
     if is_masked p profile.masks then None else
-    if accepts Stable profile.arch p.keywords then Some Stable else
+    if not profile.testing && accepts Stable profile.arch p.keywords then Some Stable else
     if accepts Testing profile.arch p.keywords then Some Testing else None

@@ -8,8 +8,9 @@
 //! - `pkg`, `profile`, `value_lists`, `masks`, `rules`: the records and their lists. Contracts see a list type as a list.
 //! - `index`: what `Pkgs`, `Masks` and `Rules` keep beside their items, so that a look-up by name or flag goes through
 //!   the items that it finds and no others.
+//! - `preferred`: whether a package prefers a flag on.
 //! - `visible`: whether an atom asks for a package, and whether keywords accept one.
-//! - `laws`: what the test of an atom's USE items means.
+//! - `laws`: what the test of an atom's USE items means, and at which level a profile judges.
 #![tactic(auto)]
 
 mod index;
@@ -17,16 +18,18 @@ mod kinds;
 mod laws;
 mod masks;
 mod pkg;
+mod preferred;
 mod profile;
 mod rules;
 mod value_lists;
 mod visible;
 
 pub use kinds::{Class, Context, Eapi, FlagState, Level, Status, class_text, has_class};
-pub use laws::meets_law;
+pub use laws::{judged_law, meets_law};
 pub use masks::{Mask, Masks};
 pub use pkg::{Pkg, Pkgs};
+pub use preferred::preferred_on;
 pub use profile::{Profile, Profiles};
 pub use rules::{Effect, Rule, Rules};
 pub use value_lists::{ValueList, ValueLists};
-pub use visible::{accepts, is_testing, matches_named, matches_pkg};
+pub use visible::{accepts, has_testing, is_testing, matches_named, matches_pkg};

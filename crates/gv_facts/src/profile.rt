@@ -17,6 +17,9 @@ pub struct Profile {
     pub path: Text,
     /// The third word of that line.
     pub status: Status,
+    /// Whether it accepts what its arch has at testing: ACCEPT_KEYWORDS has the arch with `~`. Such a profile judges at
+    /// testing alone.
+    pub testing: bool,
     /// The words of IUSE_IMPLICIT.
     pub iuse_implicit: Texts,
     /// The words of USE_EXPAND.
@@ -43,6 +46,7 @@ impl Profile {
             arch: self.arch.copy(alloc)?,
             path: self.path.copy(alloc)?,
             status: self.status,
+            testing: self.testing,
             iuse_implicit: self.iuse_implicit.copy(alloc)?,
             expand: self.expand.copy(alloc)?,
             expand_implicit: self.expand_implicit.copy(alloc)?,

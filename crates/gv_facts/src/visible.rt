@@ -54,7 +54,8 @@ pub fn is_testing(arch: &[u8], keyword: &[u8]) -> bool
     }
 }
 
-fn has_testing(keywords: &Texts, arch: &[u8]) -> bool
+/// Whether one of the keywords is the arch with `~`.
+pub fn has_testing(keywords: &Texts, arch: &[u8]) -> bool
     ensures { result ≡ has_text keywords.now (testing arch.now) }
 {
     for keyword in keywords.items() {

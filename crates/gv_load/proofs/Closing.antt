@@ -2,41 +2,13 @@
 use Rattle.std.proofs.Common.{◌≡◌, ℕ, ◌+◌, List, [], ◌∷◌, ◌++◌, Bool, true, false, ◌||◌, Some, None, drop, refl, sym, ap, ◌∙◌, append-nil, append_assoc}
 use Rattle.std.specs.Prelude.{Option, slice_get}
 use Rattle.std.specs.Str.{bytes_eq}
-use Rattle.std.proofs.lemmas.List.Folds.{list_any-append}
 use Rattle.gv_base.specs.Order.{has_text}
 use Rattle.gv_profile.specs.declared.files.DirFiles.{DirFiles}
 use Rattle.gv_load.specs.declared.reaching.Ahead.{Ahead}
 use Rattle.gv_load.specs.Ahead.{ahead_of}
 use Rattle.gv_load.specs.Closed.{parent_paths, IsClosedBut, IsClosed, paths_left}
 use Rattle.gv_load.specs.Reaching.{Dirs, paths_of}
-use Rattle.gv_load.proofs.Reaches.{has_last, same_bytes}
-use Rattle.gv_load.proofs.Drops.{dropped, nothing_dropped}
-
--- ---- of tests
-pub by_case : {X : Type 0} (a b : Bool) → (a || b) ≡ true → (a ≡ true → X) → (b ≡ true → X) → X
-by_case true b is left right = left refl
-by_case false b is left right = right is
-
-pub on_left : (a b : Bool) → a ≡ true → (a || b) ≡ true
-on_left true b is = refl
-on_left false b is = cc
-
-pub on_right : (a b : Bool) → b ≡ true → (a || b) ≡ true
-on_right true b is = refl
-on_right false b is = is
-
--- ---- of members
-in_both : (xs ys : List (List ℕ)) (p : List ℕ) → has_text (xs ++ ys) p ≡ (has_text xs p || has_text ys p)
-in_both xs ys p = list_any-append (bytes_eq p) xs ys
-
-pub in_front : (xs ys : List (List ℕ)) (p : List ℕ) → has_text xs p ≡ true → has_text (xs ++ ys) p ≡ true
-in_front xs ys p is = in_both xs ys p ∙ on_left _ (has_text ys p) is
-
-pub in_back : (xs ys : List (List ℕ)) (p : List ℕ) → has_text ys p ≡ true → has_text (xs ++ ys) p ≡ true
-in_back xs ys p is = in_both xs ys p ∙ on_right (has_text xs p) _ is
-
-pub in_either : {X : Type 0} (xs ys : List (List ℕ)) (p : List ℕ) → has_text (xs ++ ys) p ≡ true → (has_text xs p ≡ true → X) → (has_text ys p ≡ true → X) → X
-in_either xs ys p is left right = by_case (has_text xs p) (has_text ys p) (sym (in_both xs ys p) ∙ is) left right
+use Rattle.gv_load.specs.ListLemmas.{by_case, dropped, has_last, in_back, in_either, in_front, nothing_dropped, on_left, on_right, same_bytes}
 
 same_here : (texts : List (List ℕ)) (p dir : List ℕ) → bytes_eq p dir ≡ true → has_text texts dir ≡ true → has_text texts p ≡ true
 same_here texts p dir same is = ap (has_text texts) (same_bytes p dir same) ∙ is

@@ -2,8 +2,8 @@
 use Rattle.std.proofs.Common.{◌≡◌, ℕ, List, [], ◌∷◌, ◌++◌, refl}
 use Rattle.gv_base.specs.declared.tree.Found.{Found}
 use Rattle.gv_load.specs.Directories.{dir_as, dir_at, steps_as, dir_steps}
-use Rattle.gv_load.specs.Look.{Look}
-use Rattle.gv_load.specs.Reading.{read}
+use Rattle.gv_reading.specs.Look.{Look}
+use Rattle.gv_reading.specs.Reading.{read}
 
 pub steps_at : (look : Look) (dir : List ℕ) (found : Found) → found ≡ look.found dir → dir_steps look dir ≡ (read dir ∷ []) ++ steps_as look dir found
 unfolding dir_steps

@@ -11,8 +11,8 @@ use Rattle.gv_base.specs.Order.{byte_cmp, has_text}
 use Rattle.gv_load.specs.DigestWords.{digests_with, KeepsDigests}
 use Rattle.gv_load.specs.EclassDigests.{DigestMap}
 use Rattle.gv_load.specs.Entries.{eclass_digest}
-use Rattle.gv_load.specs.Look.{Look}
-use Rattle.gv_load.proofs.Reaches.{has_last}
+use Rattle.gv_reading.specs.Look.{Look}
+use Rattle.gv_load.specs.ListLemmas.{has_last}
 
 -- one item more
 pub taken : (xs : List (List ℕ)) (i : ℕ) (x : List ℕ) → i < length xs → x ≡ get_or xs i x → take (i + 1) xs ≡ take i xs ++ x ∷ []

@@ -8,9 +8,10 @@ use Rattle.md5.specs.Md5.{md5, rounds, block_words, compress, hash_after, digest
 use Rattle.gv_base.specs.Listing.{below, next_part}
 use Rattle.gv_base.specs.Order.{byte_cmp, in_order}
 use Rattle.gv_base.specs.Outside.{found_as}
+use Rattle.gv_facts.specs.declared.rules.Effect.{Effect}
+use Rattle.gv_facts.specs.declared.rules.Effect.TheVariants as effects
 use Rattle.gv_profile.specs.MaskLines.{file_atom}
-use Rattle.gv_profile.specs.Names as names
-use Rattle.gv_profile.specs.Names.{profiles, eapi_path, parent_path, defaults_path, detail_of}
+use Rattle.gv_profile.specs.Names.{desc_path, profiles, eapi_path, parent_path, defaults_path, detail_of}
 use Rattle.gv_profile.specs.Walking.{walk_below}
 use Rattle.gv_profile.specs.declared.notes.PlaceNote.{PlaceNote}
 use Rattle.gv_report.specs.declared.keyword.Keyword.TheVariants as keywords
@@ -18,15 +19,15 @@ use Rattle.gv_report.specs.declared.report.Report.{Report}
 use Rattle.gv_load.specs.Directories.{dir_at, dir_steps}
 use Rattle.gv_load.specs.Layout.{layout}
 use Rattle.gv_load.specs.Loading.{loading}
-use Rattle.gv_load.specs.Look.{Look}
-use Rattle.gv_load.specs.declared.faults.LoadFault.{LoadFault}
-use Rattle.gv_load.specs.declared.faults.LoadFault.TheVariants.{NotARepository}
+use Rattle.gv_reading.specs.Look.{Look}
+use Rattle.gv_reading.specs.declared.faults.LoadFault.{LoadFault}
+use Rattle.gv_reading.specs.declared.faults.LoadFault.TheVariants.{NotARepository}
 use Rattle.gv_load.specs.Categories.{pf_subject}
 use Rattle.gv_load.specs.Notes.{category_detail, pf_report, place_report, repository_notes, stale_detail}
 use Rattle.gv_load.specs.Order.{load_steps}
-use Rattle.gv_load.specs.Paths.{desc_path, categories_path, mask_path, cache_dir, ebuild_end, eclass_path, stack_place}
+use Rattle.gv_load.specs.Paths.{categories_path, mask_path, cache_dir, ebuild_end, eclass_path, stack_place}
 use Rattle.gv_load.specs.Reaching.{reach_below}
-use Rattle.gv_load.specs.Reading.{read, list, need, bound, once}
+use Rattle.gv_reading.specs.Reading.{read, list, need, bound, once}
 use Rattle.gv_load.specs.Stacks as stacks
 use Rattle.gv_load.specs.Repository.{repository}
 use Rattle.gv_load.specs.declared.loading.Repo.{Repo}
@@ -186,7 +187,33 @@ cycle_told : (notes_of cycle_files ≡ profile_note (record { path = codes "prof
 unfolding repository repository_notes category_detail stale_detail dir_at layout desc_path categories_path mask_path cache_dir ebuild_end eclass_path reach_below walk_below profiles eapi_path parent_path detail_of stacks.detail_of
 cycle_told = (refl, refl)
 
--- ---- each kind of bad line, and each kind of fault
+-- a parent that isn't there
+abbrev lost_files : Files
+lost_files = (codes "profiles/top/parent", codes "../base\n\n../gone\n") ∷ three_files
+
+lost_told : (notes_of lost_files ≡ profile_error (record { path = (codes "profiles/top/parent"); line = 3; detail = codes "missing parent" }) ∷ []) × (profiles_of lost_files ≡ [])
+unfolding repository repository_notes category_detail stale_detail dir_at layout desc_path categories_path mask_path cache_dir ebuild_end eclass_path reach_below walk_below profiles eapi_path parent_path detail_of stacks.detail_of
+lost_told = (refl, refl)
+
+-- ---- the eight files of flags, by their names, with what comes of a line of each
+
+abbrev eight_files : Files
+eight_files = (codes "profiles/base/use.mask", codes "um\n") ∷ (codes "profiles/base/use.force", codes "uf\n")
+    ∷ (codes "profiles/base/use.stable.mask", codes "usm\n") ∷ (codes "profiles/base/use.stable.force", codes "usf\n")
+    ∷ (codes "profiles/base/package.use.mask", codes "x/y pm\n") ∷ (codes "profiles/base/package.use.force", codes "x/y pf\n")
+    ∷ (codes "profiles/base/package.use.stable.mask", codes "x/y psm\n") ∷ (codes "profiles/base/package.use.stable.force", codes "x/y psf\n") ∷ top
+
+-- the flag, what is done to it, whether under stable restrictions alone, and whether for the packages of an atom alone
+abbrev effects_of : Files → List (List (List ℕ × Effect × Bool × Bool))
+effects_of files = map (λ p. map (λ r. (r.flag, r.effect, r.stable, is_some r.atom)) p.rules) (repository (seen files)).profiles
+
+eight_told : effects_of eight_files ≡
+    ((codes "um", effects.Mask, false, false) ∷ (codes "uf", effects.Force, false, false) ∷ (codes "usm", effects.Mask, true, false) ∷ (codes "usf", effects.Force, true, false)
+    ∷ (codes "pm", effects.Mask, false, true) ∷ (codes "pf", effects.Force, false, true) ∷ (codes "psm", effects.Mask, true, true) ∷ (codes "psf", effects.Force, true, true) ∷ []) ∷ []
+unfolding repository dir_at layout desc_path categories_path mask_path cache_dir ebuild_end eclass_path reach_below walk_below profiles eapi_path parent_path file_atom
+eight_told = refl
+
+-- ---- each kind of bad line, and the other kinds of faults
 
 abbrev bad_files : Files
 bad_files = (codes "profiles/profiles.desc", codes "amd64 base stable\namd64 base exp\namd64 gone dev\namd64 eight\n\namd64 old exp\narm64 base/ dev more\n")
@@ -206,7 +233,7 @@ bad_told : (notes_of bad_files ≡
     ∷ profile_note (record { path = codes "profiles/old/parent"; line = 2; detail = codes "bad line" })
     ∷ profile_error (record { path = (codes "profiles/profiles.desc"); line = 3; detail = codes "missing profile" }) ∷ profile_error (record { path = (codes "profiles/old/eapi"); line = 1; detail = codes "bad eapi" }) ∷ [])
     × (profiles_of bad_files ≡ 1 ∷ 7 ∷ [])
-unfolding repository repository_notes category_detail stale_detail dir_at layout desc_path names.desc_path defaults_path categories_path mask_path cache_dir ebuild_end eclass_path reach_below walk_below profiles eapi_path parent_path detail_of stacks.detail_of file_atom
+unfolding repository repository_notes category_detail stale_detail dir_at layout desc_path defaults_path categories_path mask_path cache_dir ebuild_end eclass_path reach_below walk_below profiles eapi_path parent_path detail_of stacks.detail_of file_atom
 bad_told = (refl, refl)
 
 -- ---- what is read, in order
@@ -256,5 +283,5 @@ own_files = (codes "profiles/profiles.desc", codes "amd64 . stable\namd64 .. sta
 own_told : (notes_of own_files ≡ profile_note (record { path = codes "profiles/package.mask"; line = 2; detail = codes "bad atom" })
     ∷ profile_note (record { path = codes "profiles/package.mask"; line = 2; detail = codes "bad atom" }) ∷ profile_error (record { path = (codes "profiles/profiles.desc"); line = 2; detail = codes "missing profile" }) ∷ [])
     × (map (λ p. map (λ m. m.text) p.masks) (repository (seen own_files)).profiles ≡ (codes "x/y" ∷ codes "x/y" ∷ []) ∷ [])
-unfolding repository repository_notes category_detail stale_detail dir_at layout desc_path names.desc_path defaults_path categories_path mask_path cache_dir ebuild_end eclass_path reach_below walk_below profiles eapi_path parent_path detail_of stacks.detail_of file_atom
+unfolding repository repository_notes category_detail stale_detail dir_at layout desc_path defaults_path categories_path mask_path cache_dir ebuild_end eclass_path reach_below walk_below profiles eapi_path parent_path detail_of stacks.detail_of file_atom
 own_told = (refl, refl)

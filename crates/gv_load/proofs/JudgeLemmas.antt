@@ -18,14 +18,8 @@ use Rattle.gv_load.specs.DigestWords.{AllNamed, AreNamed, KeepsDigests}
 use Rattle.gv_load.specs.EclassDigests.{DigestMap}
 use Rattle.gv_load.specs.Entries.{eclass_name, named_by, names_in, names_with, eclass_digest}
 use Rattle.gv_load.specs.Freshness.{is_that, first_other, stale_eclasses, kept_with, kept_as, pf_kept}
-use Rattle.gv_load.specs.Look.{Look}
-
-pub or_right : (a b : Bool) → b ≡ true → (a || b) ≡ true
-or_right true b is = refl
-or_right false b is = is
-
-pub itself : (name : List ℕ) (names : List (List ℕ)) → has_text (name ∷ names) name ≡ true
-itself name names = ap (λ b. b || has_text names name) ((bytes_eq-Decides name name).1 refl)
+use Rattle.gv_load.specs.ListLemmas.{itself, on_right}
+use Rattle.gv_reading.specs.Look.{Look}
 
 kept_there : (look : Look) (names : List (List ℕ)) (digests : DigestMap) (name : List ℕ) → KeepsDigests look names digests → has_text names name ≡ true → get digests name ≡ eclass_digest look name
 kept_there look names digests name keeps there = keeps name ∙ ap (λ (b : Bool). let o : Option (List ℕ) = if b then eclass_digest look name else None in o) there
@@ -34,7 +28,7 @@ same_other : (look : Look) (names : List (List ℕ)) (digests : DigestMap) (es :
 same_other look names digests [] keeps named = refl
 same_other look names digests (e ∷ es) keeps named =
     ap (λ (o : Option (List ℕ)). if is_that o e.digest then first_other (get digests) es else Some e.name) (kept_there look names digests e.name keeps (named e.name (itself e.name (map eclass_name es))))
-    ∙ ap (λ (o : Option (List ℕ)). if is_that (eclass_digest look e.name) e.digest then o else Some e.name) (same_other look names digests es keeps (λ name is. named name (or_right (bytes_eq name e.name) _ is)))
+    ∙ ap (λ (o : Option (List ℕ)). if is_that (eclass_digest look e.name) e.digest then o else Some e.name) (same_other look names digests es keeps (λ name is. named name (on_right (bytes_eq name e.name) _ is)))
 
 same_eclasses : (look : Look) (names : List (List ℕ)) (digests : DigestMap) (es : Option (List Eclass)) → KeepsDigests look names digests → AreNamed names (named_by es) → stale_eclasses (get digests) es ≡ stale_eclasses (eclass_digest look) es
 same_eclasses look names digests None keeps named = refl
@@ -56,7 +50,7 @@ pub all_named : (names : List (List ℕ)) (reads : List PfRead) → ((name : Lis
 all_named names [] within = tt
 all_named names (r ∷ rs) within = (
   (λ name is. within name (list_any-append (bytes_eq name) (names_in r) (flat_map names_in rs) ∙ or_left _ _ is)),
-  all_named names rs (λ name is. within name (list_any-append (bytes_eq name) (names_in r) (flat_map names_in rs) ∙ or_right (has_text (names_in r) name) _ is)),
+  all_named names rs (λ name is. within name (list_any-append (bytes_eq name) (names_in r) (flat_map names_in rs) ∙ on_right (has_text (names_in r) name) _ is)),
 )
 
 pub all_of_them : (all names : List (List ℕ)) (reads : List PfRead) → all ≡ flat_map names_in reads → HaveSameTexts all names → AllNamed names reads

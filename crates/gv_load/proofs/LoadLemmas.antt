@@ -2,22 +2,21 @@
 use Rattle.std.proofs.Common.{◌≡◌, ℕ, List, ◌++◌, refl, sym, ap, subst, ◌∙◌, arith}
 use Rattle.std.specs.Prelude.{Option, Some, None, Result, Ok, Err, IfSome}
 use Rattle.gv_base.specs.FileMap.{FileMap}
-use Rattle.gv_load.specs.declared.faults.LoadFault.{LoadFault}
-use Rattle.gv_load.specs.declared.faults.LoadFault.TheVariants.{Tree, NotARepository, Limit, NoMemory}
+use Rattle.gv_reading.specs.declared.faults.LoadFault.{LoadFault}
+use Rattle.gv_reading.specs.declared.faults.LoadFault.TheVariants.{Tree, NotARepository, Limit, NoMemory}
 use Rattle.gv_load.specs.declared.freshness.PfKept.{PfKept}
 use Rattle.gv_load.specs.declared.lists.Lists.{Lists}
 use Rattle.gv_load.specs.declared.loading.Repo.{Repo}
 use Rattle.gv_load.specs.declared.line_profiles.Profiled.{Profiled}
-use Rattle.gv_load.specs.Causes.{Cause, HasEnded, HasRead, View, IsTold, look_in}
-use Rattle.gv_load.specs.EntriesPass.{PassesWithin}
+use Rattle.gv_reading.specs.Causes.{Cause, HasEnded, HasRead, View, IsTold, look_in}
+use Rattle.gv_load.specs.Loading.{Finds, LoadCause, PassesWithin, loading}
 use Rattle.gv_load.specs.Freshness.{all_kept}
-use Rattle.gv_load.specs.Reader.{Seen, nothing}
-use Rattle.gv_load.specs.Loading.{LoadCause, loading}
-use Rattle.gv_load.specs.Look.{Look, look_of}
+use Rattle.gv_reading.specs.Reader.{Seen, nothing}
+use Rattle.gv_reading.specs.Look.{Look, look_of}
 use Rattle.gv_load.specs.Notes.{repository_notes}
 use Rattle.gv_load.specs.Order.{categories, desc_lines, list_steps, load_steps, packages_steps, profiles_steps}
 use Rattle.gv_load.specs.PartsRead.{lists_of, profiled_of, repo_with}
-use Rattle.gv_load.specs.Reading.{Step, passed}
+use Rattle.gv_reading.specs.Reading.{Step, passed}
 use Rattle.gv_load.specs.Repository.{repository}
 
 -- ---- the steps of the whole, where the lists are those of the tree
@@ -72,6 +71,14 @@ unfolding look_in
 passes_within None new went = tt
 passes_within (Some files) new went = record { seen = new; passes = went refl; loads = loaded (look_of files) new (repository (look_of files)) (went refl) refl; within = omega arith }
 
+finds : (told : Option FileMap) (new : Seen) → (IsTold told → passed (look_in told) nothing (load_steps (look_in told)) ≡ Ok new) → IfSome told (λ files. Finds files new.found)
+unfolding look_in
+finds None new went = tt
+finds (Some files) new went = λ seen passes.
+    let went_there : passed (look_of files) nothing (load_steps (look_of files)) ≡ Ok new = went refl in
+    let same : new ≡ seen = cc in
+    ap (λ (s : Seen). s.found) same
+
 -- what a load tells, by what its reading tells
 module _ {before now : View} {start : Seen} (none : start ≡ nothing) where
   pub repo_told : {new : Seen} (repo : Repo) → HasRead before now (λ look. load_steps look) (λ look. repo ≡ repository look) start new → IfSome before.told (λ files. loading (look_of files) ≡ Ok repo)
@@ -84,6 +91,12 @@ module _ {before now : View} {start : Seen} (none : start ≡ nothing) where
   passes_told {new = new} repo found is one =
       let here = subst (λ (s : Seen). HasRead before now (λ look. load_steps look) (λ look. repo ≡ repository look) s new) none one in
       subst (λ n. IfSome before.told (λ files. PassesWithin files n)) (sym is) (passes_within before.told new here.passed)
+
+  pub finds_told : {new : Seen} (repo : Repo) (found : ℕ) → found ≡ new.found → HasRead before now (λ look. load_steps look) (λ look. repo ≡ repository look) start new →
+      IfSome before.told (λ files. Finds files found)
+  finds_told {new = new} repo found is one =
+      let here = subst (λ (s : Seen). HasRead before now (λ look. load_steps look) (λ look. repo ≡ repository look) s new) none one in
+      subst (λ n. IfSome before.told (λ files. Finds files n)) (sym is) (finds before.told new here.passed)
 
   pub cause_told : (fault : LoadFault) → HasEnded before now (λ look. load_steps look) start fault → LoadCause before.told before.faults now.faults fault
   cause_told fault ended =

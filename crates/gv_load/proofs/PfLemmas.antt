@@ -7,12 +7,11 @@ use Rattle.gv_base.specs.Order.{has_text}
 use Rattle.gv_entry.specs.EntryRead.{entry_of}
 use Rattle.gv_load.specs.declared.entries.PfRead.{PfRead}
 use Rattle.gv_load.specs.Categories.{listed, name_of, pf_subject, pfs_of}
-use Rattle.gv_load.specs.Directories.{bytes_at}
+use Rattle.gv_reading.specs.Look.{Look, bytes_at}
 use Rattle.gv_load.specs.Entries.{digest_at, pf_read, reads_of}
-use Rattle.gv_load.specs.Look.{Look}
 use Rattle.gv_load.specs.Order.{pf_steps, pfs_steps}
 use Rattle.gv_load.specs.Paths.{entry_path, ebuild_path}
-use Rattle.gv_load.specs.Reading.{Step, once}
+use Rattle.gv_reading.specs.Reading.{Step, once}
 
 pub later : {A : Type 0} → (test : A → Bool) (x : A) (xs : List A) → list_all test (x ∷ xs) ≡ true → list_all test xs ≡ true
 later test x xs = by (test x)

@@ -7,28 +7,28 @@ use Rattle.gv_base.specs.Order.{has_text}
 use Rattle.gv_facts.specs.declared.profile.Profile.{Profile}
 use Rattle.gv_profile.specs.declared.desc.DescLine.{DescLine}
 use Rattle.gv_profile.specs.declared.files.DirFiles.{DirFiles}
-use Rattle.gv_profile.specs.declared.files.NamedFile.{NamedFile}
+use Rattle.gv_reading.specs.declared.files.NamedFile.{NamedFile}
 use Rattle.gv_profile.specs.declared.notes.PlaceNote.{PlaceNote}
-use Rattle.gv_load.specs.declared.faults.LoadFault.{LoadFault}
-use Rattle.gv_load.specs.declared.faults.LoadFault.TheVariants.{Tree, NotARepository, Limit, NoMemory}
+use Rattle.gv_reading.specs.declared.faults.LoadFault.{LoadFault}
+use Rattle.gv_reading.specs.declared.faults.LoadFault.TheVariants.{Tree, NotARepository, Limit, NoMemory}
 use Rattle.gv_load.specs.declared.line_profiles.Profiled.{Profiled}
 use Rattle.gv_load.specs.declared.reaching.Reached.{Reached}
 use Rattle.gv_load.specs.declared.stacks.Folds.{Folds}
 use Rattle.gv_load.specs.Ahead.{KeepsDirs}
 use Rattle.gv_load.specs.Directories.{steps_of, dir_at}
-use Rattle.gv_load.specs.Causes.{HasEnded, HasRead, View, look_in}
+use Rattle.gv_reading.specs.Causes.{HasEnded, HasRead, View, look_in}
 use Rattle.gv_load.specs.Closed.{HaveSameStacks}
-use Rattle.gv_load.specs.Reader.{Seen}
-use Rattle.gv_load.specs.Look.{Look}
+use Rattle.gv_reading.specs.Reader.{Seen}
+use Rattle.gv_reading.specs.Look.{Look}
 use Rattle.gv_load.specs.Notes.{notes_at, notes_in}
 use Rattle.gv_load.specs.Order.{profiles_steps, reached, stack_steps}
 use Rattle.gv_load.specs.PartsRead.{HasReached, profiled_of}
-use Rattle.gv_load.specs.Reading.{Out}
+use Rattle.gv_reading.specs.Reading.{Out}
 use Rattle.gv_load.specs.Stacks.{error_at, profile_at}
 use Rattle.gv_load.specs.StackLimits.{first_limit, LimitIs}
-use Rattle.gv_load.proofs.JudgeLemmas.{itself, or_right}
-use Rattle.gv_load.proofs.Passing.{no_memory, passed-append}
-use Rattle.gv_load.proofs.StackSteps.{stacks_pass, stacks_refused}
+use Rattle.gv_reading.specs.Passing.{no_memory, passed-append}
+use Rattle.gv_load.specs.StackSteps.{stacks_pass, stacks_refused}
+use Rattle.gv_load.specs.ListLemmas.{itself, on_right}
 
 -- ---- the notes of what was read are those of the tree
 same_notes : (look : Look) (r : Reached) (xs : List (List ℕ)) → KeepsDirs look r → ((path : List ℕ) → has_text xs path ≡ true → has_text r.order path ≡ true) → notes_in (get r.dirs) xs ≡ notes_in (dir_at look) xs
@@ -36,7 +36,7 @@ same_notes look r [] keeps within = refl
 same_notes look r (x ∷ xs) keeps within =
     let here : get r.dirs x ≡ dir_at look x = keeps x ∙ ap (λ (b : Bool). let o : Option DirFiles = if b then dir_at look x else None in o) (within x (itself x xs)) in
     ap (λ (o : Option DirFiles). notes_at x o ++ notes_in (get r.dirs) xs) here
-    ∙ ap (λ (ns : List PlaceNote). notes_at x (dir_at look x) ++ ns) (same_notes look r xs keeps (λ path is. within path (or_right (bytes_eq path x) (has_text xs path) is)))
+    ∙ ap (λ (ns : List PlaceNote). notes_at x (dir_at look x) ++ ns) (same_notes look r xs keeps (λ path is. within path (on_right (bytes_eq path x) (has_text xs path) is)))
 
 abbrev with_notes : Folds → List PlaceNote → List (List ℕ) → Profiled
 with_notes folds notes directories = record { profiles = folds.profiles; errors = folds.errors; notes = notes; directories = directories }

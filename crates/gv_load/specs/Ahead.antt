@@ -7,7 +7,7 @@ use Rattle.gv_profile.specs.declared.files.DirFiles.{DirFiles}
 use Rattle.gv_load.specs.declared.reaching.Ahead.{Ahead}
 use Rattle.gv_load.specs.declared.reaching.Reached.{Reached}
 use Rattle.gv_load.specs.Directories.{dir_at}
-use Rattle.gv_load.specs.Look.{Look}
+use Rattle.gv_reading.specs.Look.{Look}
 use Rattle.gv_load.specs.Reaching.{Dirs, paths_of, reach_below}
 
 -- what will be reached in the end: the last parents are gone to first

@@ -8,8 +8,8 @@ use Rattle.gv_version.specs.Names.{is_category, is_package, split_pf}
 use Rattle.gv_report.specs.declared.report.Subject.{Subject}
 use Rattle.gv_report.specs.declared.report.Subject.TheVariants.{Package}
 use Rattle.gv_profile.specs.Lines.{line_words, file_lines}
-use Rattle.gv_profile.specs.Paths.{within}
-use Rattle.gv_load.specs.Look.{Look}
+use Rattle.gv_reading.specs.Paths.{within}
+use Rattle.gv_reading.specs.Look.{Look}
 use Rattle.gv_load.specs.Paths.{cache_dir, ebuild_end}
 
 -- a good line of `categories` has one word, a category

@@ -4,7 +4,7 @@ use Rattle.std.specs.FinMap.{get, insert}
 use Rattle.gv_base.specs.Order.{has_text}
 use Rattle.gv_load.specs.Entries.{eclass_digest, names_in}
 use Rattle.gv_load.specs.declared.entries.PfRead.{PfRead}
-use Rattle.gv_load.specs.Look.{Look}
+use Rattle.gv_reading.specs.Look.{Look}
 use Rattle.gv_load.specs.EclassDigests.{DigestMap}
 
 abbrev pub digests_with : DigestMap → List ℕ → Option (List ℕ) → DigestMap

@@ -8,8 +8,7 @@ use Rattle.gv_entry.specs.declared.entry.Eclass.{Eclass}
 use Rattle.gv_entry.specs.declared.entry.Entry.{Entry}
 use Rattle.gv_load.specs.declared.entries.PfRead.{PfRead}
 use Rattle.gv_load.specs.Categories.{listed, name_of, pf_subject, pfs_of}
-use Rattle.gv_load.specs.Directories.{bytes_at}
-use Rattle.gv_load.specs.Look.{Look}
+use Rattle.gv_reading.specs.Look.{Look, bytes_at}
 use Rattle.gv_load.specs.Paths.{entry_path, ebuild_path, eclass_path}
 
 -- the bytes of an entry that was listed; one that is no file counts as not there

@@ -6,7 +6,7 @@ use Rattle.gv_entry.specs.declared.entry.Eclass.{Eclass}
 use Rattle.gv_entry.specs.declared.entry.Entry.{Entry}
 use Rattle.gv_load.specs.declared.entries.PfRead.{PfRead}
 use Rattle.gv_load.specs.Entries.{all_reads, eclass_digest}
-use Rattle.gv_load.specs.Look.{Look}
+use Rattle.gv_reading.specs.Look.{Look}
 use Rattle.gv_load.specs.declared.freshness.Kept.{Kept}
 use Rattle.gv_load.specs.declared.freshness.Kept.TheVariants.{Nothing, Missing, Orphan, Stale, Current}
 use Rattle.gv_load.specs.declared.freshness.PfKept.{PfKept}

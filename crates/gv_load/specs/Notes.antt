@@ -12,16 +12,18 @@ use Rattle.gv_report.specs.declared.report.Report.{Report}
 use Rattle.gv_report.specs.declared.report.Subject.{Subject}
 use Rattle.gv_report.specs.declared.report.Subject.TheVariants.{Place}
 use Rattle.gv_version.specs.Names.{is_category}
-use Rattle.gv_load.specs.Directories.{text_at, dir_at, files_at}
+use Rattle.gv_reading.specs.Look.{Look, text_at}
+use Rattle.gv_load.specs.Directories.{dir_at}
+use Rattle.gv_reading.specs.NamedFiles.{files_at}
 use Rattle.gv_load.specs.Freshness.{all_kept}
 use Rattle.gv_load.specs.declared.freshness.Kept.{Kept}
 use Rattle.gv_load.specs.declared.freshness.Kept.TheVariants.{Nothing, Missing, Orphan, Stale, Current}
 use Rattle.gv_load.specs.declared.freshness.PfKept.{PfKept}
 use Rattle.gv_load.specs.declared.freshness.Why.{Why}
 use Rattle.gv_load.specs.declared.freshness.Why.TheVariants.{Ebuild, Eclasses, OneEclass}
-use Rattle.gv_load.specs.Look.{Look}
 use Rattle.gv_load.specs.Order.{desc_lines, categories, reached}
-use Rattle.gv_load.specs.Paths.{desc_path, categories_path, mask_path}
+use Rattle.gv_profile.specs.Names.{desc_path}
+use Rattle.gv_load.specs.Paths.{categories_path, mask_path}
 use Rattle.gv_load.specs.Reaching.{Dirs}
 use Rattle.gv_load.specs.Stacks.{error_at}
 

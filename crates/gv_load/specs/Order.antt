@@ -2,19 +2,21 @@
 use Rattle.std.specs.Prelude.{ℕ, if◌then◌else◌, List, [], ◌∷◌, ◌++◌, map, flat_map, Option, Some}
 use Rattle.gv_base.specs.Order.{has_text}
 use Rattle.gv_profile.specs.Desc.{desc_read}
-use Rattle.gv_profile.specs.Paths.{within}
+use Rattle.gv_reading.specs.Paths.{within}
 use Rattle.gv_profile.specs.Walking.{stack_fault, most_visits}
 use Rattle.gv_profile.specs.declared.desc.DescLine.{DescLine}
 use Rattle.gv_profile.specs.declared.faults.ProfileFault.{ProfileFault}
 use Rattle.gv_profile.specs.declared.faults.ProfileFault.TheVariants.{TooMany}
 use Rattle.std.specs.Prelude.{Bool, true, false}
-use Rattle.gv_load.specs.Directories.{steps_of, text_at, dir_at, file_steps}
+use Rattle.gv_load.specs.Directories.{steps_of, dir_at}
+use Rattle.gv_reading.specs.Look.{Look, text_at}
+use Rattle.gv_reading.specs.NamedFiles.{file_steps}
 use Rattle.gv_load.specs.Categories.{categories_in, listed, folders, pfs_of, name_of}
 use Rattle.gv_load.specs.Entries.{all_reads, eclass_names}
-use Rattle.gv_load.specs.Look.{Look}
-use Rattle.gv_load.specs.Paths.{desc_path, categories_path, mask_path, cache_dir, entry_path, ebuild_path, eclass_path, stack_place}
+use Rattle.gv_profile.specs.Names.{desc_path}
+use Rattle.gv_load.specs.Paths.{categories_path, mask_path, cache_dir, entry_path, ebuild_path, eclass_path, stack_place}
 use Rattle.gv_load.specs.Reaching.{Dirs, reached_by}
-use Rattle.gv_load.specs.Reading.{Step, list, need, bound, once}
+use Rattle.gv_reading.specs.Reading.{Step, list, need, bound, once}
 
 -- what the two lists at the top say
 abbrev pub desc_lines : Look → List DescLine

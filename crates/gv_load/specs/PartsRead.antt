@@ -5,17 +5,19 @@ use Rattle.gv_base.specs.Order.{has_text}
 use Rattle.gv_profile.specs.Desc.{desc_read}
 use Rattle.gv_profile.specs.BadLines.{mask_notes}
 use Rattle.gv_profile.specs.declared.desc.DescLine.{DescLine}
-use Rattle.gv_profile.specs.declared.files.NamedFile.{NamedFile}
+use Rattle.gv_reading.specs.declared.files.NamedFile.{NamedFile}
 use Rattle.gv_report.specs.declared.keyword.Keyword.TheVariants as keywords
 use Rattle.gv_report.specs.declared.report.Report.{Report}
 use Rattle.gv_load.specs.Ahead.{KeepsDirs}
 use Rattle.gv_load.specs.Categories.{categories_in, listed, pfs_of}
 use Rattle.gv_load.specs.Closed.{HaveSameStacks}
-use Rattle.gv_load.specs.Directories.{text_at, dir_at, files_at}
-use Rattle.gv_load.specs.Look.{Look}
+use Rattle.gv_reading.specs.Look.{Look, text_at}
+use Rattle.gv_load.specs.Directories.{dir_at}
+use Rattle.gv_reading.specs.NamedFiles.{files_at}
 use Rattle.gv_load.specs.Notes.{category_notes, notes_in, pf_notes, place_report}
 use Rattle.gv_load.specs.Order.{reached}
-use Rattle.gv_load.specs.Paths.{desc_path, categories_path, mask_path}
+use Rattle.gv_profile.specs.Names.{desc_path}
+use Rattle.gv_load.specs.Paths.{categories_path, mask_path}
 use Rattle.gv_load.specs.Reaching.{reached_by}
 use Rattle.gv_load.specs.Repository.{body_of, in_package_order, members_in, pkg_of}
 use Rattle.gv_load.specs.Stacks.{error_at, profile_at}

@@ -1,24 +1,27 @@
 -- The repository that stands in a tree. Nothing is said of reading.
-use Rattle.std.specs.Prelude.{List, [], map, filter_map, fold, Option, None}
+use Rattle.std.specs.Prelude.{◌≡◌, List, [], map, filter_map, fold, Option, None}
 use Rattle.std.specs.Option.{option_map}
 use Rattle.std.specs.BTreeSet.{insert_key}
+use Rattle.std.specs.List.{AllByRecursion}
 use Rattle.std.specs.List.Sorted.{IsStrictlySortedBy}
 use Rattle.std.specs.declared.cmp.Ordering.{Ordering}
 use Rattle.std.specs.Ordering.{on}
 use Rattle.gv_entry.specs.declared.entry.Body.{Body}
 use Rattle.gv_entry.specs.declared.entry.Entry.{Entry}
 use Rattle.gv_facts.specs.declared.pkg.Pkg.{Pkg}
+use Rattle.gv_report.specs.declared.report.Report.{Report}
 use Rattle.gv_report.specs.declared.report.Subject.{Subject}
 use Rattle.gv_report.specs.declared.report.Subject.TheVariants.{Package}
 use Rattle.gv_report.specs.Order.{subject_cmp}
-use Rattle.gv_load.specs.Directories.{dir_at, files_at}
+use Rattle.gv_load.specs.Directories.{dir_at}
+use Rattle.gv_reading.specs.NamedFiles.{files_at}
 use Rattle.gv_load.specs.Freshness.{all_kept}
 use Rattle.gv_load.specs.declared.freshness.Kept.{Kept}
 use Rattle.gv_load.specs.declared.freshness.Kept.TheVariants.{Nothing, Missing, Orphan, Stale, Current}
 use Rattle.gv_load.specs.declared.freshness.PfKept.{PfKept}
 use Rattle.gv_load.specs.declared.loading.Repo.{Repo}
 use Rattle.gv_load.specs.declared.members.Member.{Member}
-use Rattle.gv_load.specs.Look.{Look}
+use Rattle.gv_reading.specs.Look.{Look}
 use Rattle.gv_load.specs.Notes.{repository_notes}
 use Rattle.gv_load.specs.Order.{desc_lines, categories, reached}
 use Rattle.gv_load.specs.Paths.{mask_path}
@@ -66,6 +69,10 @@ in_package_order members = fold (insert_key member_cmp) [] members
 
 abbrev pub members : Look → List Member
 members look = in_package_order (members_in (all_kept look (categories look)))
+
+-- what is noted of a repository is of no class
+abbrev pub AreClassless : List Report → Type 0
+AreClassless notes = AllByRecursion (λ (r : Report). r.class ≡ None) notes
 
 -- its profiles are those of the lines whose stack has no fault
 unfoldable pub repository : Look → Repo

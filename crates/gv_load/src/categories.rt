@@ -7,26 +7,23 @@ ghost use Rattle.std.specs.List.{list_all};
 ghost use Rattle.gv_base.specs.Order.{in_order, has_text};
 ghost use Rattle.gv_version.specs.Names.{split_pf, is_package};
 ghost use Rattle.gv_load.specs.Categories.{is_pf, name_of, pf_subject, version_of, listed, folders, ends_as_ebuild, front_of, ebuild_in, ebuilds_in};
-ghost use Rattle.gv_load.specs.Causes.{Knows, Reads, view};
+ghost use Rattle.gv_reading.specs.Causes.{Knows, Reads, view};
 ghost use Rattle.gv_load.specs.Order.{folder_lists, listing_steps};
 ghost use Rattle.gv_load.specs.PartsRead.{HasListed};
 ghost use Rattle.gv_load.specs.Paths.{cache_dir};
-ghost use Rattle.gv_load.specs.Reading.{list};
-ghost use Rattle.gv_profile.specs.Paths.{within};
+ghost use Rattle.gv_reading.specs.Reading.{list};
+ghost use Rattle.gv_reading.specs.Paths.{within};
 
-use crate::LoadFault;
 use crate::paths::cache_dir;
-use crate::reaching::add_key;
-use crate::reader::{Reader, list_at};
 use gv_base::{NoMemory, Text, Texts, Tree};
-use gv_profile::within;
+use gv_reading::{LoadFault, Reader, add_key, list_at, within};
 use gv_report::Subject;
 use gv_version::{Version, is_package, split_pf, split_pf_law};
 use std::alloc::Global;
 use std::collections::BTreeSet;
 
 /// The package name in a PF.
-pub(crate) fn name_in(pf: &[u8]) -> Result<&[u8], NoMemory>
+pub fn name_in(pf: &[u8]) -> Result<&[u8], NoMemory>
     ensures { IfOk result (λ name. name.now ≡ name_of pf.now) }
 {
     match hyphen_of(pf) {
@@ -86,7 +83,8 @@ fn hyphen_of(name: &[u8]) -> Result<Option<u32>, NoMemory>
     }
 }
 
-pub(crate) fn is_pf(name: &[u8]) -> Result<bool, NoMemory>
+/// Whether a name is that of a PF.
+pub fn is_pf(name: &[u8]) -> Result<bool, NoMemory>
     ensures { IfOk result (λ is. is ≡ is_pf name.now) }
 {
     match hyphen_of(name) {
@@ -106,8 +104,8 @@ fn front(bytes: &[u8], at: usize) -> &[u8]
     }
 }
 
-/// What lies behind the byte at this place.
-pub(crate) fn behind(bytes: &[u8], at: usize) -> &[u8]
+// What lies behind the byte at this place.
+fn behind(bytes: &[u8], at: usize) -> &[u8]
     ensures { result.now ≡ drop (at + 1) bytes.now }
 {
     if at < bytes.len() {
@@ -129,7 +127,8 @@ fn version_in(pf: &[u8]) -> Result<&[u8], NoMemory>
 }
 
 pub(crate) fn pfs_among(alloc: Global, names: &Texts) -> Result<Texts, NoMemory>
-    ensures { IfOk result (λ pfs. pfs ≡ filter is_pf names.now) }
+    ensures value { IfOk result (λ pfs. pfs ≡ filter is_pf names.now) }
+    ensures pfs { IfOk result (λ pfs. list_all is_pf pfs ≡ true) }
 {
     let mut pfs = Texts::new(alloc);
     for name in names.items() {
@@ -271,7 +270,7 @@ pub(crate) fn set_of(alloc: Global, texts: &Texts) -> Result<BTreeSet<Text>, NoM
     Ok(set)
 }
 
-#[tactic(auto, using(crate::proofs::Listings::all_pass))]
+#[tactic(auto, using(crate::specs::ListLemmas::all_pass))]
 fn all_pfs(alloc: Global, entries: &Texts, ebuilds: &Texts) -> Result<Texts, NoMemory>
     ensures value { IfOk result (λ pfs. pfs ≡ filter is_pf (in_order (entries.now ++ ebuilds.now))) }
     ensures pfs { IfOk result (λ pfs. list_all is_pf pfs ≡ true) }

@@ -2,19 +2,18 @@
 //!
 //! A directory costs its thirteen paths, those of its file directories, and O(the bytes that are there).
 ghost use Rattle.std.specs.Prelude.{◌≡◌, ◌∷◌, []};
-ghost use Rattle.gv_load.specs.Causes.{Knows, Reads, view};
-ghost use Rattle.gv_load.specs.Directories.{bytes_at, dir_files, dir_at, head_steps, pair_steps, flag_steps, package_steps, inside_steps, dir_steps};
+ghost use Rattle.gv_reading.specs.Causes.{Knows, Reads, view};
+ghost use Rattle.gv_reading.specs.Look.{bytes_at};
+ghost use Rattle.gv_load.specs.Directories.{dir_files, dir_at, head_steps, pair_steps, flag_steps, package_steps, inside_steps, dir_steps};
 ghost use Rattle.gv_load.specs.Layout.{layout};
 ghost use Rattle.gv_load.specs.Parts.{head_at, pair_at, flags_at, packages_at, all_files};
-ghost use Rattle.gv_load.specs.Reading.{read};
-ghost use Rattle.gv_profile.specs.Paths.{within};
+ghost use Rattle.gv_reading.specs.Reading.{read};
+ghost use Rattle.gv_reading.specs.Paths.{within};
 
-use crate::LoadFault;
 use crate::layout::Layout;
-use crate::named_files::read_named;
-use crate::reader::Reader;
 use gv_base::{Found, Text, Tree};
-use gv_profile::{DirFiles, NamedFiles, within};
+use gv_profile::DirFiles;
+use gv_reading::{LoadFault, NamedFiles, Reader, read_named, within};
 use std::alloc::Global;
 
 // The files that come first.

@@ -1,19 +1,18 @@
 //! The digests of the eclasses that entries name. Each eclass is read once, and its bytes are let go.
 ghost use Rattle.std.specs.Prelude.{◌≡◌, ◌∷◌, [], ◌++◌, flat_map, map, IfOk, OnOk, OnErr};
 ghost use Rattle.std.specs.FinMap as finite;
-ghost use Rattle.gv_load.specs.Causes.{Knows, Reads, view};
+ghost use Rattle.gv_reading.specs.Causes.{Knows, Reads, view};
 ghost use Rattle.gv_load.specs.DigestWords.{digests_with, AllNamed, KeepsDigests};
 ghost use Rattle.gv_load.specs.Entries.{eclass_name, named_by, names_in, eclass_names, eclass_digest};
 ghost use Rattle.gv_load.specs.Order.{eclass_steps};
 ghost use Rattle.gv_load.specs.Paths.{eclass_path};
-ghost use Rattle.gv_load.specs.Reading.{once};
+ghost use Rattle.gv_reading.specs.Reading.{once};
 
-use crate::LoadFault;
-use crate::entries::{PfRead, PfReads};
+use crate::entries::{PfRead, PfReads, digest_once};
 use crate::paths::eclass_path;
-use crate::reader::Reader;
 use gv_base::{NoMemory, Text, Texts, Tree, map_law};
 use gv_entry::Eclasses;
+use gv_reading::{LoadFault, Reader};
 use std::alloc::Global;
 use std::collections::BTreeMap;
 use std::marker::Model;
@@ -167,6 +166,6 @@ fn read_eclass<T: Tree>(
     ensures { Reads (view T.files T.faults T.entered T.lent) tree.old tree.new (λ look. once (eclass_path name.now) ∷ []) (λ look _. digests.new ≡ digests_with digests.old name.now (eclass_digest look name.now)) reader.old reader.new result }
 {
     let path = eclass_path(alloc, name)?;
-    let digest = reader.digest_once(tree, &path)?;
+    let digest = digest_once(reader, tree, &path)?;
     Ok(put_if(digests, name, digest)?)
 }

@@ -6,20 +6,18 @@ ghost use Rattle.std.specs.List.{list_all};
 ghost use Rattle.gv_load.specs.Categories.{is_pf, name_of, pf_subject};
 ghost use Rattle.gv_entry.specs.EntryRead.{entry_of};
 ghost use Rattle.std.specs.Option.{option_map};
-ghost use Rattle.gv_load.specs.Directories.{bytes_at};
-ghost use Rattle.gv_load.specs.Causes.{Knows, Reads, view};
+ghost use Rattle.gv_reading.specs.Look.{bytes_at};
+ghost use Rattle.gv_reading.specs.Causes.{Knows, Reads, view};
 ghost use Rattle.gv_load.specs.Entries.{entry_at, digest_at, pf_read, reads_of, all_reads};
 ghost use Rattle.gv_load.specs.Order.{entry_steps, pf_steps, pfs_steps, category_steps, categories_steps};
 ghost use Rattle.gv_load.specs.Paths.{entry_path, ebuild_path};
-ghost use Rattle.gv_load.specs.Reading.{once};
+ghost use Rattle.gv_reading.specs.Reading.{once};
 
-use crate::LoadFault;
 use crate::categories::{list_category, name_in, pf_subject};
 use crate::paths::{ebuild_path, entry_path};
-use crate::reaching::has_key;
-use crate::reader::Reader;
-use gv_base::{NoMemory, Text, Texts, Tree};
-use gv_entry::{Entry, read_entry};
+use gv_base::{Found, NoMemory, Text, Texts, Tree};
+use gv_entry::{Entry, digest_of, read_entry};
+use gv_reading::{LoadFault, Reader, has_key};
 use gv_report::Subject;
 use std::alloc::Global;
 use std::collections::BTreeSet;
@@ -27,7 +25,7 @@ use std::marker::Model;
 
 /// What was read of a PF.
 #[derive(Drop)]
-pub(crate) struct PfRead {
+pub struct PfRead {
     /// The package that the PF is of.
     pub subject: Subject,
     /// `None` where it isn't listed, or is no file.
@@ -177,6 +175,22 @@ fn read_listed<T: Tree>(
     read_there(alloc, reader, tree, category, pf)
 }
 
+/// The digest of a path that no later step reads, none where it is no file. The bytes are let go.
+pub(crate) fn digest_once<T: Tree>(
+    reader: &mut Reader,
+    tree: &mut T,
+    path: &Text,
+) -> Result<Option<[u8; 16]>, LoadFault>
+    requires { Knows (T.files tree.old) reader.old }
+    ensures { Reads (view T.files T.faults T.entered T.lent) tree.old tree.new (λ look. once path.now ∷ []) (λ look digest. digest ≡ digest_at look path.now) reader.old reader.new result }
+{
+    match reader.read_once(tree, path)? {
+        Found::File(text) => Ok(Some(digest_of(text.bytes()))),
+        Found::Dir => Ok(None),
+        Found::Absent => Ok(None),
+    }
+}
+
 // The digest of a PF's ebuild, where it is a file.
 fn read_ebuild<T: Tree>(
     alloc: Global,
@@ -189,7 +203,7 @@ fn read_ebuild<T: Tree>(
     ensures { Reads (view T.files T.faults T.entered T.lent) tree.old tree.new (λ look. once (ebuild_path category.now (name_of pf.now) pf.now) ∷ []) (λ look value. value ≡ digest_at look (ebuild_path category.now (name_of pf.now) pf.now)) reader.old reader.new result }
 {
     let path = ebuild_path_of(alloc, category, pf)?;
-    reader.digest_once(tree, &path)
+    digest_once(reader, tree, &path)
 }
 
 fn ebuild_path_of(alloc: Global, category: &Text, pf: &Text) -> Result<Text, NoMemory>

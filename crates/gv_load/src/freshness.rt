@@ -3,7 +3,7 @@ ghost use Rattle.std.specs.Prelude.{◌≡◌, ◌∷◌, [], ◌++◌, ℕ, Lis
 ghost use Rattle.std.specs.FinMap as finite;
 ghost use Rattle.gv_load.specs.DigestWords.{AllNamed, KeepsDigests};
 ghost use Rattle.gv_load.specs.Entries.{eclass_digest};
-ghost use Rattle.gv_load.specs.Look.{Look};
+ghost use Rattle.gv_reading.specs.Look.{Look};
 ghost use Rattle.gv_load.specs.Freshness.{is_that, first_other, stale_eclasses, stale, kept_with, kept_as, pf_kept};
 
 use crate::eclasses::EclassDigests;
@@ -16,7 +16,7 @@ use std::marker::Model;
 
 /// Why an entry isn't current.
 #[derive(Drop)]
-pub(crate) enum Why {
+pub enum Why {
     /// Its digest isn't that of the ebuild.
     Ebuild,
     /// Its list of eclasses can't be read.
@@ -27,7 +27,7 @@ pub(crate) enum Why {
 
 /// What a PF is.
 #[derive(Drop)]
-pub(crate) enum Kept {
+pub enum Kept {
     /// Neither entry nor ebuild.
     Nothing,
     /// An ebuild without an entry.
@@ -40,7 +40,7 @@ pub(crate) enum Kept {
 
 /// A PF, and what it is.
 #[derive(Drop)]
-pub(crate) struct PfKept {
+pub struct PfKept {
     /// The package that the PF is of.
     pub subject: Subject,
     pub kept: Kept,

@@ -3,21 +3,21 @@
 //! Costs what `reaching` and `stacks` say, and O(bytes) for the bad lines of each directory, once.
 ghost use Rattle.std.specs.Prelude.{◌≡◌, ◌++◌, IfOk, OnOk};
 ghost use Rattle.std.specs.FinMap as finite;
-ghost use Rattle.gv_load.specs.Causes.{Knows, Reads, view};
+ghost use Rattle.gv_reading.specs.Causes.{Knows, Reads, view};
 ghost use Rattle.gv_load.specs.Layout.{layout};
 ghost use Rattle.gv_load.specs.Notes.{notes_at, notes_in};
 ghost use Rattle.gv_load.specs.Order.{profiles_steps};
+ghost use Rattle.gv_load.specs.OwnLines.{AreNumbered, HaveOwnLines};
 ghost use Rattle.gv_load.specs.PartsRead.{profiled_of};
 
-use crate::LoadFault;
 use crate::layout::Layout;
 use crate::lists::add_notes;
 use crate::reaching::{Reached, read_dirs};
-use crate::reader::Reader;
 use crate::stacks::{Folds, fold_lines};
 use gv_base::{NoMemory, Text, Texts, Tree};
 use gv_facts::Profiles;
-use gv_profile::{DescLines, Dirs, NamedFiles, PlaceNotes, dir_notes};
+use gv_profile::{DescLines, Dirs, PlaceNotes, dir_notes};
+use gv_reading::{LoadFault, NamedFiles, Reader};
 use std::alloc::Global;
 
 /// What the lines come to.
@@ -44,7 +44,9 @@ pub(crate) fn read_profiles<T: Tree>(
 ) -> Result<Profiled, LoadFault>
     requires knows { Knows (T.files tree.old) reader.old }
     requires names { names.now ≡ layout }
-    ensures { Reads (view T.files T.faults T.entered T.lent) tree.old tree.new (λ look. profiles_steps look lines.now) (λ look value. value ≡ profiled_of look masks.now lines.now) reader.old reader.new result }
+    requires lines { AreNumbered lines.now }
+    ensures own { IfOk result (λ p. HaveOwnLines p.profiles) }
+    ensures reads { Reads (view T.files T.faults T.entered T.lent) tree.old tree.new (λ look. profiles_steps look lines.now) (λ look value. value ≡ profiled_of look masks.now lines.now) reader.old reader.new result }
 {
     let reached = read_dirs(alloc, reader, tree, names, lines)?;
     let folds = fold_lines(alloc, &reached.dirs, masks, lines)?;

@@ -1,19 +1,19 @@
 //! The lists at the top of a repository and its own masks (PMS chapter 4). O(bytes), and the categories are sorted.
-ghost use Rattle.std.specs.Prelude.{◌≡◌, ◌+◌, ◌++◌, IfOk, OnOk, option_to_list};
+ghost use Rattle.std.specs.Prelude.{◌≡◌, ◌++◌, IfOk, OnOk, option_to_list};
 ghost use Rattle.gv_load.specs.Categories.{category_in, categories_in};
-ghost use Rattle.gv_load.specs.Causes.{Knows, Reads, view};
+ghost use Rattle.gv_reading.specs.Causes.{Knows, Reads, view};
 ghost use Rattle.gv_load.specs.Notes.{bad_category, category_detail, category_notes, is_bad_category};
 ghost use Rattle.gv_load.specs.Order.{list_steps};
+ghost use Rattle.gv_load.specs.OwnLines.{AreNumbered};
 ghost use Rattle.gv_load.specs.PartsRead.{lists_of, lists_with, top_paths};
 
-use crate::LoadFault;
-use crate::named_files::read_files;
-use crate::paths::{categories_path, desc_path, mask_path};
-use crate::reader::Reader;
+use crate::paths::{categories_path, mask_path};
 use gv_base::{Cut, NoMemory, Text, Texts, Tree, next_piece};
 use gv_profile::{
-    DescLines, DescRead, NamedFiles, PlaceNote, PlaceNotes, line_words, mask_notes, read_desc,
+    DescLines, DescRead, PlaceNote, PlaceNotes, desc_path, line_words, mask_notes, next_number,
+    read_desc,
 };
+use gv_reading::{LoadFault, NamedFiles, Reader, read_files};
 use gv_version::is_category;
 use std::alloc::Global;
 
@@ -56,7 +56,8 @@ pub(crate) fn read_lists<T: Tree>(
 ) -> Result<Lists, LoadFault>
     requires knows { Knows (T.files tree.old) reader.old }
     requires paths { paths.now ≡ top_paths }
-    ensures { Reads (view T.files T.faults T.entered T.lent) tree.old tree.new (λ look. list_steps look) (λ look value. value ≡ lists_of look) reader.old reader.new result }
+    ensures lines { IfOk result (λ lists. AreNumbered lists.lines) }
+    ensures reads { Reads (view T.files T.faults T.entered T.lent) tree.old tree.new (λ look. list_steps look) (λ look value. value ≡ lists_of look) reader.old reader.new result }
 {
     let desc = reader.need(tree, &paths.desc)?;
     let categories = reader.need(tree, &paths.categories)?;
@@ -84,7 +85,8 @@ fn lists_with(
     categories: &Text,
     masks: NamedFiles,
 ) -> Result<Lists, NoMemory>
-    ensures { IfOk result (λ lists. lists ≡ lists_with desc.now categories.now masks) }
+    ensures lists { IfOk result (λ lists. lists ≡ lists_with desc.now categories.now masks) }
+    ensures lines { IfOk result (λ lists. AreNumbered lists.lines) }
 {
     let DescRead { lines, mut notes } = read_desc(alloc, desc.bytes())?;
     add_notes(
@@ -165,16 +167,6 @@ fn note_category(
     Ok(())
 }
 
-// A list has room for fewer than 2^32 items; a longer one finds no memory.
-fn next_line(line: u32) -> Result<u32, NoMemory>
-    ensures { IfOk result (λ next. next ≡ line + 1) }
-{
-    match line.checked_add(1) {
-        Some(next) => Ok(next),
-        None => Err(NoMemory),
-    }
-}
-
 fn category_notes(alloc: Global, bytes: &[u8]) -> Result<PlaceNotes, NoMemory>
     ensures { IfOk result (λ notes. notes ≡ category_notes bytes.now) }
 {
@@ -184,7 +176,7 @@ fn category_notes(alloc: Global, bytes: &[u8]) -> Result<PlaceNotes, NoMemory>
     while let Some(piece) = next_piece(&mut rest, Cut::Lines) {
         let words = line_words(alloc, piece)?;
         note_category(alloc, &mut notes, line, words.items())?;
-        line = next_line(line)?;
+        line = next_number(line)?;
     }
     Ok(notes)
 }

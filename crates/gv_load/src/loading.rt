@@ -4,17 +4,15 @@
 //! were read, and what folding the stacks costs. Files of profiles are kept until the end; of an entry what it says is
 //! kept, and of ebuilds and eclasses their digests.
 ghost use Rattle.std.specs.Prelude.{◌≡◌, ◌≤◌, Ok, length, IfOk, IfErr, IfSome, OnOk};
-ghost use Rattle.gv_load.specs.Causes.{Knows, Reads, view};
-ghost use Rattle.gv_load.specs.EntriesPass.{PassesWithin};
-ghost use Rattle.gv_load.specs.EntryEdits.{AreClassless};
+ghost use Rattle.gv_reading.specs.Causes.{Knows, Reads, view};
+ghost use Rattle.gv_load.specs.Loading.{Finds, LoadCause, PassesWithin, loading};
+ghost use Rattle.gv_load.specs.Repository.{AreClassless, AreInPackageOrder, repository};
 ghost use Rattle.gv_load.specs.Layout.{layout};
-ghost use Rattle.gv_load.specs.Loading.{LoadCause, loading};
-ghost use Rattle.gv_load.specs.Look.{look_of};
+ghost use Rattle.gv_reading.specs.Look.{look_of};
 ghost use Rattle.gv_load.specs.Order.{load_steps};
+ghost use Rattle.gv_load.specs.OwnLines.{HaveOwnLines};
 ghost use Rattle.gv_load.specs.PartsRead.{notes_with, repo_with, top_paths};
-ghost use Rattle.gv_load.specs.Repository.{AreInPackageOrder, repository};
 
-use crate::LoadFault;
 use crate::freshness::PfsKept;
 use crate::layout::{Layout, dir_names};
 use crate::line_profiles::{Profiled, read_profiles};
@@ -22,10 +20,10 @@ use crate::lists::{Lists, TopPaths, read_lists, top_paths};
 use crate::members::{Bodies, packages_in};
 use crate::notes::{add_pfs, add_places};
 use crate::packages::read_packages;
-use crate::reader::Reader;
 use gv_base::{NoMemory, Texts, Tree};
 use gv_facts::{Pkgs, Profiles};
 use gv_profile::DescLines;
+use gv_reading::{LoadFault, Reader};
 use gv_report::{Keyword, Reports};
 use std::alloc::Global;
 
@@ -49,11 +47,40 @@ pub struct Repo {
     pub notes: Reports,
 }
 
+impl Repo {
+    /// An equal repository.
+    pub fn copy(&self, alloc: Global) -> Result<Repo, NoMemory>
+        ensures { IfOk result (λ repo. repo ≡ self.now) }
+    {
+        Ok(Repo {
+            pkgs: self.pkgs.copy(alloc)?,
+            bodies: self.bodies.copy(alloc)?,
+            profiles: self.profiles.copy(alloc)?,
+            lines: self.lines.copy(alloc)?,
+            categories: self.categories.copy(alloc)?,
+            directories: self.directories.copy(alloc)?,
+            notes: self.notes.copy(alloc)?,
+        })
+    }
+}
+
 /// A repository, and how many files its load found.
 #[derive(Drop)]
 pub struct Loaded {
     pub repo: Repo,
     pub found: u64,
+}
+
+impl Loaded {
+    /// An equal one.
+    pub fn copy(&self, alloc: Global) -> Result<Loaded, NoMemory>
+        ensures { IfOk result (λ loaded. loaded ≡ self.now) }
+    {
+        Ok(Loaded {
+            repo: self.repo.copy(alloc)?,
+            found: self.found,
+        })
+    }
 }
 
 /// The repository that stands in a tree, or the first refusal in reading order.
@@ -66,6 +93,7 @@ pub fn load<T: Tree>(alloc: Global, tree: &mut T) -> Result<Repo, LoadFault>
     ensures repo { IfOk result (λ repo. IfSome (T.files tree.old) (λ files. loading (look_of files) ≡ Ok repo)) }
     ensures bodies { IfOk result (λ repo. length repo.bodies ≡ length repo.pkgs) }
     ensures order { IfOk result (λ repo. AreInPackageOrder repo.pkgs) }
+    ensures own { IfOk result (λ repo. HaveOwnLines repo.profiles) }
     ensures classless { IfOk result (λ repo. AreClassless repo.notes) }
     ensures cause { IfErr result (LoadCause (T.files tree.old) (T.faults tree.old) (T.faults tree.new)) }
     ensures files { T.files tree.new ≡ T.files tree.old }
@@ -80,12 +108,14 @@ pub fn load<T: Tree>(alloc: Global, tree: &mut T) -> Result<Repo, LoadFault>
     }
 }
 
-/// The same, with the number of files that were found.
+/// The same, with exactly the number of files that were found.
 pub fn load_counted<T: Tree>(alloc: Global, tree: &mut T) -> Result<Loaded, LoadFault>
     ensures repo { IfOk result (λ loaded. IfSome (T.files tree.old) (λ files. loading (look_of files) ≡ Ok loaded.repo)) }
     ensures found { IfOk result (λ loaded. IfSome (T.files tree.old) (λ files. PassesWithin files loaded.found)) }
+    ensures exact { IfOk result (λ loaded. IfSome (T.files tree.old) (λ files. Finds files loaded.found)) }
     ensures bodies { IfOk result (λ loaded. length loaded.repo.bodies ≡ length loaded.repo.pkgs) }
     ensures order { IfOk result (λ loaded. AreInPackageOrder loaded.repo.pkgs) }
+    ensures own { IfOk result (λ loaded. HaveOwnLines loaded.repo.profiles) }
     ensures classless { IfOk result (λ loaded. AreClassless loaded.repo.notes) }
     ensures cause { IfErr result (LoadCause (T.files tree.old) (T.faults tree.old) (T.faults tree.new)) }
     ensures files { T.files tree.new ≡ T.files tree.old }
@@ -120,6 +150,7 @@ fn read_repo<T: Tree>(
     ensures reads { Reads (view T.files T.faults T.entered T.lent) tree.old tree.new (λ look. load_steps look) (λ look value. value ≡ repository look) reader.old reader.new result }
     ensures bodies { IfOk result (λ repo. length repo.bodies ≡ length repo.pkgs) }
     ensures order { IfOk result (λ repo. AreInPackageOrder repo.pkgs) }
+    ensures own { IfOk result (λ repo. HaveOwnLines repo.profiles) }
     ensures classless { IfOk result (λ repo. AreClassless repo.notes) }
 {
     let lists = read_lists(alloc, reader, tree, paths)?;
@@ -128,7 +159,7 @@ fn read_repo<T: Tree>(
     Ok(repo_with(alloc, lists, profiled, kepts)?)
 }
 
-#[tactic(auto, using(crate::proofs::NoteClasses::of_parts))]
+#[tactic(auto, using(crate::specs::NoteClasses::of_parts))]
 fn repo_with(
     alloc: Global,
     lists: Lists,

@@ -22,8 +22,20 @@ pub struct Member {
     pub body: Body,
 }
 
+impl Member {
+    /// An equal package with equal expressions.
+    pub fn copy(&self, alloc: Global) -> Result<Member, NoMemory>
+        ensures { IfOk result (λ member. member ≡ self.now) }
+    {
+        Ok(Member {
+            pkg: self.pkg.copy(alloc)?,
+            body: self.body.copy(alloc)?,
+        })
+    }
+}
+
 /// By category, name, version and PF.
-pub(crate) fn compare(one: &Pkg, two: &Pkg) -> Ordering
+pub fn compare(one: &Pkg, two: &Pkg) -> Ordering
     ensures { result ≡ pkg_cmp one.now two.now }
 {
     one.category.cmp(&two.category).then_with(|| {
@@ -43,7 +55,7 @@ impl Member {
     }
 
     /// Whether it comes before the other one.
-    pub(crate) fn is_before(&self, other: &Member) -> bool
+    pub fn is_before(&self, other: &Member) -> bool
         ensures { result ≡ is_lt (member_cmp self.now other.now) }
     {
         matches!(self.compare(other), Ordering::Less)
@@ -146,7 +158,7 @@ impl Bodies {
     }
 
     /// Puts a body in the place of one.
-    pub(crate) fn set(&mut self, place: usize, item: Body)
+    pub fn set(&mut self, place: usize, item: Body)
         requires { place < length self.old }
         ensures { self.new ≡ slice_set self.old place item }
     {
@@ -154,7 +166,7 @@ impl Bodies {
     }
 
     /// The bodies, in order, given away.
-    pub(crate) fn into_items(self) -> Vec<Body>
+    pub fn into_items(self) -> Vec<Body>
         ensures { result.items ≡ self }
     {
         self.items
@@ -166,11 +178,22 @@ impl Bodies {
     {
         &self.items
     }
+
+    /// An equal list.
+    pub fn copy(&self, alloc: Global) -> Result<Self, NoMemory>
+        ensures { IfOk result (λ bodies. bodies ≡ self.now) }
+    {
+        let mut bodies = Bodies::new(alloc);
+        for item in self.items() {
+            bodies.add(item.copy(alloc)?)?;
+        }
+        Ok(bodies)
+    }
 }
 
 /// The packages, and their bodies.
 #[derive(Drop)]
-pub(crate) struct Packages {
+pub struct Packages {
     pub pkgs: Pkgs,
     pub bodies: Bodies,
 }

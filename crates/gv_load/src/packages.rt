@@ -1,15 +1,14 @@
 //! The PFs of the categories, each with what it is. Costs what `entries`, `eclasses` and `freshness` say.
 ghost use Rattle.std.specs.Prelude.{◌≡◌};
-ghost use Rattle.gv_load.specs.Causes.{Knows, Reads, view};
+ghost use Rattle.gv_reading.specs.Causes.{Knows, Reads, view};
 ghost use Rattle.gv_load.specs.Freshness.{all_kept};
 ghost use Rattle.gv_load.specs.Order.{packages_steps};
 
-use crate::LoadFault;
 use crate::eclasses::{eclass_names, read_eclasses};
 use crate::entries::read_categories;
 use crate::freshness::{PfsKept, judge_all};
-use crate::reader::Reader;
 use gv_base::{Texts, Tree};
+use gv_reading::{LoadFault, Reader};
 use std::alloc::Global;
 
 /// Reads the PFs of these categories, then the eclasses that their entries name, and judges each PF by their digests.

@@ -1,18 +1,10 @@
 //! The fixed paths of a repository (PMS chapters 4 and 14). Each costs O(its bytes).
 ghost use Rattle.std.specs.Prelude.{◌≡◌, ◌++◌, IfOk};
-ghost use Rattle.gv_load.specs.Paths.{desc_path, categories_path, mask_path, cache_dir, entry_path, ebuild_end, ebuild_path, eclass_path};
+ghost use Rattle.gv_load.specs.Paths.{categories_path, mask_path, cache_dir, entry_path, ebuild_end, ebuild_path, eclass_path};
 
 use gv_base::{NoMemory, Text};
-use gv_profile::within;
+use gv_reading::within;
 use std::alloc::Global;
-
-/// The list of profiles.
-#[tactic(auto, unfolding(crate::specs::Paths::desc_path))]
-pub(crate) fn desc_path(alloc: Global) -> Result<Text, NoMemory>
-    ensures { IfOk result (λ path. path ≡ desc_path) }
-{
-    Text::of(alloc, b"profiles/profiles.desc")
-}
 
 /// The file that names the categories, one a line.
 #[tactic(auto, unfolding(crate::specs::Paths::categories_path))]
@@ -24,7 +16,7 @@ pub(crate) fn categories_path(alloc: Global) -> Result<Text, NoMemory>
 
 /// The repository's own masks.
 #[tactic(auto, unfolding(crate::specs::Paths::mask_path))]
-pub(crate) fn mask_path(alloc: Global) -> Result<Text, NoMemory>
+pub fn mask_path(alloc: Global) -> Result<Text, NoMemory>
     ensures { IfOk result (λ path. path ≡ mask_path) }
 {
     Text::of(alloc, b"profiles/package.mask")

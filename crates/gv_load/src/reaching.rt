@@ -2,26 +2,23 @@
 //!
 //! A directory costs O(log n) comparisons of paths for n directories for each line that names it, and its files once. The
 //! way is kept in a list, so that no depth ends the program's own stack.
-ghost use Rattle.std.specs.Prelude.{◌≡◌, ◌≤◌, ◌<◌, ◌∷◌, [], ◌++◌, ◌||◌, false, ℕ, List, Ok, length, IfOk, IfErr, OnOk};
-ghost use Rattle.std.specs.Str.{bytes_eq};
+ghost use Rattle.std.specs.Prelude.{◌≡◌, ◌∷◌, [], ◌++◌, false, length, IfOk, OnOk};
 ghost use Rattle.gv_base.specs.Order.{has_text};
-ghost use Rattle.gv_load.specs.Ahead.{reached_after, ahead_of, dirs_with, IsIndexed, KeepsDirs, HasVisited};
+ghost use Rattle.gv_load.specs.Ahead.{reached_after, ahead_of, dirs_with, IsIndexed, HasVisited};
 ghost use Rattle.gv_load.specs.Directories.{steps_of, dir_at, dir_steps};
-ghost use Rattle.gv_load.specs.Causes.{Cause, IsTold, Knows, Reads, around, look_in, view};
-ghost use Rattle.gv_load.specs.Closed.{IsClosed, IsClosedBut, paths_left};
+ghost use Rattle.gv_load.specs.Going.{Reaches};
+ghost use Rattle.gv_reading.specs.Causes.{Knows, Reads, view};
+ghost use Rattle.gv_load.specs.Closed.{paths_left};
 ghost use Rattle.gv_load.specs.PartsRead.{HasReached};
-ghost use Rattle.gv_load.specs.Reader.{Seen};
 ghost use Rattle.gv_load.specs.Layout.{layout};
 ghost use Rattle.gv_load.specs.Reaching.{paths_of, reach_below, reached_by, from_line};
-ghost use Rattle.gv_load.specs.Reading.{passed};
 ghost use Rattle.gv_profile.specs.Walking.{line_dir};
 
-use crate::LoadFault;
 use crate::directories::read_directory;
 use crate::layout::Layout;
-use crate::reader::Reader;
-use gv_base::{NoMemory, Text, Texts, Tree, in_order_law};
+use gv_base::{NoMemory, Text, Texts, Tree};
 use gv_profile::{DescLine, DescLines, DirFiles, Dirs, line_dir, parents_of};
+use gv_reading::{LoadFault, Reader, add_key, has_key};
 use std::alloc::Global;
 use std::collections::BTreeSet;
 
@@ -44,22 +41,6 @@ pub(crate) struct Reached {
 
 // No chain is so long: each of its directories has a file, and more files are refused.
 const MAX_DEPTH: u64 = 400_001;
-
-/// Whether the text is in the set.
-pub(crate) fn has_key(set: &BTreeSet<Text>, text: &Text) -> bool
-    ensures { result ≡ has_text set.now.keys text.now }
-{
-    set.contains(text)
-}
-
-/// Adds a text to the set.
-pub(crate) fn add_key(set: &mut BTreeSet<Text>, word: Text) -> Result<(), NoMemory>
-    ensures { OnOk result ((text : List ℕ) → has_text set.new.keys text ≡ (bytes_eq text word || has_text set.old.keys text)) }
-{
-    in_order_law();
-    set.insert(word)?;
-    Ok(())
-}
 
 /// The directories that the lines reach by parents, in the order in which they are read, with their files. Reading goes by
 /// parents alone, also behind a fault of a stack. The stack of each line is the same over what was read as over the tree.
@@ -191,17 +172,7 @@ fn arrive<T: Tree>(
     requires knows { Knows (T.files tree.old) reader.old }
     requires names { names.now ≡ layout }
     requires indexed { IsIndexed reached }
-    ensures order { IfOk result (λ r. IsTold (T.files tree.old) → reached_after (dir_at (look_in (T.files tree.old))) 0 ahead.new.items r.order ≡ reached_after (dir_at (look_in (T.files tree.old))) 0 ahead.old.items (reach_below (dir_at (look_in (T.files tree.old))) (length ahead.old.items) reached.order dir)) }
-    ensures passed { IfOk result (λ r. (start : Seen) → IsTold (T.files tree.old) → passed (look_in (T.files tree.old)) start (steps_of (look_in (T.files tree.old)) reached.order) ≡ Ok reader.old → passed (look_in (T.files tree.old)) start (steps_of (look_in (T.files tree.old)) r.order) ≡ Ok reader.new) }
-    ensures dirs { IfOk result (λ r. IsTold (T.files tree.old) → KeepsDirs (look_in (T.files tree.old)) reached → KeepsDirs (look_in (T.files tree.old)) r) }
-    ensures closed { IfOk result (λ r. IsTold (T.files tree.old) → IsClosedBut (dir_at (look_in (T.files tree.old))) reached.order (dir ∷ paths_left ahead.old.items) → IsClosedBut (dir_at (look_in (T.files tree.old))) r.order (paths_left ahead.new.items)) }
-    ensures indexed { IfOk result IsIndexed }
-    ensures knows { OnOk result (Knows (T.files tree.old) reader.new) }
-    ensures calm { OnOk result (T.faults tree.new ≡ T.faults tree.old) }
-    ensures cause { IfErr result (λ fault. (start : Seen) → (IsTold (T.files tree.old) → passed (look_in (T.files tree.old)) start (steps_of (look_in (T.files tree.old)) reached.order) ≡ Ok reader.old) → Cause (T.files tree.old) (T.faults tree.old) (T.faults tree.new) (passed (look_in (T.files tree.old)) start (steps_of (look_in (T.files tree.old)) (reached_after (dir_at (look_in (T.files tree.old))) 0 ahead.old.items (reach_below (dir_at (look_in (T.files tree.old))) (length ahead.old.items) reached.order dir)))) fault) }
-    ensures files { T.files tree.new ≡ T.files tree.old }
-    ensures around { around (T.entered tree.new) (T.lent tree.new) ≡ around (T.entered tree.old) (T.lent tree.old) }
-    ensures later { T.faults tree.old ≤ T.faults tree.new }
+    ensures { Reaches (view T.files T.faults T.entered T.lent) tree.old tree.new reached (dir ∷ paths_left ahead.old.items) (λ dirs. reached_after dirs 0 ahead.old.items (reach_below dirs (length ahead.old.items) reached.order dir)) ahead.new.items reader.old reader.new result }
 {
     if ahead.len() as u64 >= MAX_DEPTH {
         return Err(LoadFault::NoMemory);
@@ -228,17 +199,7 @@ fn go_on<T: Tree>(
     requires knows { Knows (T.files tree.old) reader.old }
     requires names { names.now ≡ layout }
     requires indexed { IsIndexed reached }
-    ensures order { IfOk result (λ r. IsTold (T.files tree.old) → reached_after (dir_at (look_in (T.files tree.old))) 0 ahead.new.items r.order ≡ reached_after (dir_at (look_in (T.files tree.old))) 0 (ahead.old.items ++ rest ∷ []) reached.order) }
-    ensures passed { IfOk result (λ r. (start : Seen) → IsTold (T.files tree.old) → passed (look_in (T.files tree.old)) start (steps_of (look_in (T.files tree.old)) reached.order) ≡ Ok reader.old → passed (look_in (T.files tree.old)) start (steps_of (look_in (T.files tree.old)) r.order) ≡ Ok reader.new) }
-    ensures dirs { IfOk result (λ r. IsTold (T.files tree.old) → KeepsDirs (look_in (T.files tree.old)) reached → KeepsDirs (look_in (T.files tree.old)) r) }
-    ensures closed { IfOk result (λ r. IsTold (T.files tree.old) → IsClosedBut (dir_at (look_in (T.files tree.old))) reached.order (paths_left (ahead.old.items ++ rest ∷ [])) → IsClosedBut (dir_at (look_in (T.files tree.old))) r.order (paths_left ahead.new.items)) }
-    ensures indexed { IfOk result IsIndexed }
-    ensures knows { OnOk result (Knows (T.files tree.old) reader.new) }
-    ensures calm { OnOk result (T.faults tree.new ≡ T.faults tree.old) }
-    ensures cause { IfErr result (λ fault. (start : Seen) → (IsTold (T.files tree.old) → passed (look_in (T.files tree.old)) start (steps_of (look_in (T.files tree.old)) reached.order) ≡ Ok reader.old) → Cause (T.files tree.old) (T.faults tree.old) (T.faults tree.new) (passed (look_in (T.files tree.old)) start (steps_of (look_in (T.files tree.old)) (reached_after (dir_at (look_in (T.files tree.old))) 0 (ahead.old.items ++ rest ∷ []) reached.order))) fault) }
-    ensures files { T.files tree.new ≡ T.files tree.old }
-    ensures around { around (T.entered tree.new) (T.lent tree.new) ≡ around (T.entered tree.old) (T.lent tree.old) }
-    ensures later { T.faults tree.old ≤ T.faults tree.new }
+    ensures { Reaches (view T.files T.faults T.entered T.lent) tree.old tree.new reached (paths_left (ahead.old.items ++ rest ∷ [])) (λ dirs. reached_after dirs 0 (ahead.old.items ++ rest ∷ []) reached.order) ahead.new.items reader.old reader.new result }
 {
     let Some(path) = rest.paths.items().get(rest.next) else {
         return Ok(reached);
@@ -268,17 +229,7 @@ fn read_from<T: Tree>(
     requires knows { Knows (T.files tree.old) reader.old }
     requires names { names.now ≡ layout }
     requires indexed { IsIndexed reached }
-    ensures order { IfOk result (λ r. IsTold (T.files tree.old) → r.order ≡ reach_below (dir_at (look_in (T.files tree.old))) 0 reached.order dir) }
-    ensures passed { IfOk result (λ r. (start : Seen) → IsTold (T.files tree.old) → passed (look_in (T.files tree.old)) start (steps_of (look_in (T.files tree.old)) reached.order) ≡ Ok reader.old → passed (look_in (T.files tree.old)) start (steps_of (look_in (T.files tree.old)) r.order) ≡ Ok reader.new) }
-    ensures dirs { IfOk result (λ r. IsTold (T.files tree.old) → KeepsDirs (look_in (T.files tree.old)) reached → KeepsDirs (look_in (T.files tree.old)) r) }
-    ensures closed { IfOk result (λ r. IsTold (T.files tree.old) → IsClosed (dir_at (look_in (T.files tree.old))) reached.order → IsClosed (dir_at (look_in (T.files tree.old))) r.order) }
-    ensures indexed { IfOk result IsIndexed }
-    ensures knows { OnOk result (Knows (T.files tree.old) reader.new) }
-    ensures calm { OnOk result (T.faults tree.new ≡ T.faults tree.old) }
-    ensures cause { IfErr result (λ fault. (start : Seen) → (IsTold (T.files tree.old) → passed (look_in (T.files tree.old)) start (steps_of (look_in (T.files tree.old)) reached.order) ≡ Ok reader.old) → Cause (T.files tree.old) (T.faults tree.old) (T.faults tree.new) (passed (look_in (T.files tree.old)) start (steps_of (look_in (T.files tree.old)) (reach_below (dir_at (look_in (T.files tree.old))) 0 reached.order dir))) fault) }
-    ensures files { T.files tree.new ≡ T.files tree.old }
-    ensures around { around (T.entered tree.new) (T.lent tree.new) ≡ around (T.entered tree.old) (T.lent tree.old) }
-    ensures later { T.faults tree.old ≤ T.faults tree.new }
+    ensures { Reaches (view T.files T.faults T.entered T.lent) tree.old tree.new reached (dir ∷ []) (λ dirs. reach_below dirs 0 reached.order dir) [] reader.old reader.new result }
 {
     let mut ahead = Vec::new(alloc);
     let mut now = match arrive(alloc, reader, tree, names, reached, dir, &mut ahead) {
@@ -309,17 +260,7 @@ fn read_line<T: Tree>(
     requires knows { Knows (T.files tree.old) reader.old }
     requires names { names.now ≡ layout }
     requires indexed { IsIndexed reached }
-    ensures order { IfOk result (λ r. IsTold (T.files tree.old) → r.order ≡ from_line (dir_at (look_in (T.files tree.old))) reached.order (line_dir line.now)) }
-    ensures passed { IfOk result (λ r. (start : Seen) → IsTold (T.files tree.old) → passed (look_in (T.files tree.old)) start (steps_of (look_in (T.files tree.old)) reached.order) ≡ Ok reader.old → passed (look_in (T.files tree.old)) start (steps_of (look_in (T.files tree.old)) r.order) ≡ Ok reader.new) }
-    ensures dirs { IfOk result (λ r. IsTold (T.files tree.old) → KeepsDirs (look_in (T.files tree.old)) reached → KeepsDirs (look_in (T.files tree.old)) r) }
-    ensures closed { IfOk result (λ r. IsTold (T.files tree.old) → IsClosed (dir_at (look_in (T.files tree.old))) reached.order → IsClosed (dir_at (look_in (T.files tree.old))) r.order) }
-    ensures indexed { IfOk result IsIndexed }
-    ensures knows { OnOk result (Knows (T.files tree.old) reader.new) }
-    ensures calm { OnOk result (T.faults tree.new ≡ T.faults tree.old) }
-    ensures cause { IfErr result (λ fault. (start : Seen) → (IsTold (T.files tree.old) → passed (look_in (T.files tree.old)) start (steps_of (look_in (T.files tree.old)) reached.order) ≡ Ok reader.old) → Cause (T.files tree.old) (T.faults tree.old) (T.faults tree.new) (passed (look_in (T.files tree.old)) start (steps_of (look_in (T.files tree.old)) (from_line (dir_at (look_in (T.files tree.old))) reached.order (line_dir line.now)))) fault) }
-    ensures files { T.files tree.new ≡ T.files tree.old }
-    ensures around { around (T.entered tree.new) (T.lent tree.new) ≡ around (T.entered tree.old) (T.lent tree.old) }
-    ensures later { T.faults tree.old ≤ T.faults tree.new }
+    ensures { Reaches (view T.files T.faults T.entered T.lent) tree.old tree.new reached [] (λ dirs. from_line dirs reached.order (line_dir line.now)) [] reader.old reader.new result }
 {
     match line_dir(alloc, line) {
         Ok(Some(dir)) => match read_from(alloc, reader, tree, names, reached, dir) {

@@ -1,17 +1,15 @@
 //! The stacks of all lines, folded line by line. A line costs what folding its stack costs.
 ghost use Rattle.std.specs.Prelude.{◌≡◌, ◌++◌, ◌∷◌, [], Some, None, false, filter_map, option_to_list, IfOk, IfErr, OnOk};
 ghost use Rattle.std.specs.FinMap as finite;
-ghost use Rattle.gv_load.specs.Paths.{desc_path, stack_place};
+ghost use Rattle.gv_profile.specs.Names.{desc_path};
+ghost use Rattle.gv_load.specs.Paths.{stack_place};
 ghost use Rattle.gv_load.specs.Stacks.{detail_of, wrong_at, error_of, error_at, profile_at};
 ghost use Rattle.gv_load.specs.StackLimits.{is_no_memory, limit_of, limit_at, first_limit, LimitIs};
 
-use crate::LoadFault;
-use crate::paths::desc_path;
 use gv_base::{NoMemory, Text};
 use gv_facts::{Profile, Profiles};
-use gv_profile::{
-    DescLine, DescLines, Dirs, NamedFiles, PlaceNote, PlaceNotes, ProfileFault, fold, within,
-};
+use gv_profile::{DescLine, DescLines, Dirs, PlaceNote, PlaceNotes, ProfileFault, desc_path, fold};
+use gv_reading::{LoadFault, NamedFiles, within};
 use std::alloc::Global;
 
 /// The profiles of the lines whose stack has no fault, and the places of the faults of the others.
@@ -79,7 +77,14 @@ fn stack_place(alloc: Global, word: &Text) -> Result<Text, NoMemory>
 fn too_many(alloc: Global, line: &DescLine) -> LoadFault
     ensures { LimitIs (Some (stack_place line.now.path)) result }
 {
-    match stack_place(alloc, &line.path) {
+    stack_limit(alloc, &line.path)
+}
+
+/// That a stack has too many visits, by the path word of its profile.
+pub fn stack_limit(alloc: Global, word: &Text) -> LoadFault
+    ensures { LimitIs (Some (stack_place word.now)) result }
+{
+    match stack_place(alloc, word) {
         Ok(place) => LoadFault::Limit {
             place,
             number: 4096,

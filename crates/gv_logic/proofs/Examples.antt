@@ -3,7 +3,7 @@ use Rattle.std.specs.Prelude.{◌≡◌, ℕ, true, false, List, [], ◌∷◌, 
 use Rattle.gv_logic.specs.declared.gates.Op.TheVariants.{And, Or}
 use Rattle.gv_logic.specs.Bytes.{number_bytes, circuit_bytes}
 use Rattle.gv_logic.specs.Circuits.{Circuit, at, op_value, values, value}
-use Rattle.gv_logic.specs.Encoding.{op_clauses, all_clauses}
+use Rattle.gv_logic.specs.Encoding.{op_clauses, all_clauses, clause_count}
 use Rattle.gv_logic.specs.Literals.{opposite}
 use Rattle.gv_logic.specs.Logs.{follows, first_refused, set_clause, least_set}
 use Rattle.gv_logic.specs.Partial.{unit_after}
@@ -29,6 +29,10 @@ or_of_nothing = refl
 
 clauses_of_and : all_clauses both ≡ (5 ∷ 0 ∷ []) ∷ (5 ∷ 3 ∷ []) ∷ (4 ∷ 1 ∷ 2 ∷ []) ∷ (4 ∷ []) ∷ []
 clauses_of_and = refl
+
+clauses_counted : clause_count both ≡ 4
+unfolding clause_count
+clauses_counted = refl
 
 clauses_of_or : op_clauses 2 Or (0 ∷ 3 ∷ []) ≡ (4 ∷ 1 ∷ []) ∷ (4 ∷ 2 ∷ []) ∷ (5 ∷ 0 ∷ 3 ∷ []) ∷ []
 clauses_of_or = refl

@@ -1,4 +1,5 @@
 pub mod Cancel
+pub mod Counts
 pub mod Drafts
 mod Examples
 pub mod GateBytes

@@ -1,8 +1,8 @@
 -- A list that is cut into lists: one list more, how many there are, and the n-th.
 use Rattle.std.proofs.Common.{◌≡◌, refl, ◌∙◌, ap, sym, subst, ℕ, suc, zero, ◌+◌, ◌-◌, ◌<◌, ◌≤◌, ◌^◌, List, [], ◌∷◌, ◌++◌, length, get_or, take, drop, arith, length-append}
-use Rattle.std.proofs.lemmas.List.{take-append-le, drop-append-le, take_all, drop_at, length-drop, get_or_read_under}
+use Rattle.std.proofs.lemmas.List.{take-append-le, drop-append-le, take_all, drop_at, length-drop, length-take-le, get_or_read_under}
 use Rattle.std.specs.Prelude.{slice_range}
-use Rattle.gv_logic.specs.LitLists.{cut_from, cut_at, start_of, AreEnds, IsCut}
+use Rattle.gv_logic.specs.LitLists.{cut_from, cut_at, lit_count, start_of, AreEnds, IsCut}
 
 pub length_cut : (from : ℕ) (ends lits : List ℕ) → length (cut_from from ends lits) ≡ length ends
 length_cut from [] lits = refl
@@ -11,6 +11,18 @@ length_cut from (end ∷ ends) lits = ap suc (length_cut end ends lits)
 end_below : (from : ℕ) (ends : List ℕ) (all : ℕ) → AreEnds from ends all → from ≤ all
 end_below from [] all are = omega (arith, are)
 end_below from (end ∷ ends) all are = omega (arith, are.0, end_below end ends all are.1)
+
+length_part : (from end : ℕ) (lits : List ℕ) → from ≤ end → end ≤ length lits → length (slice_range lits from end) ≡ end - from
+length_part from end lits up below = length-take-le (end - from) (drop from lits) (omega (arith, up, below, length-drop from lits))
+
+-- no literal stands outside the lists
+count_cut : (from : ℕ) (ends lits : List ℕ) → AreEnds from ends (length lits) → from + lit_count (cut_from from ends lits) ≡ length lits
+count_cut from [] lits are = omega (arith, are)
+count_cut from (end ∷ ends) lits are =
+    omega (arith, are.0, length_part from end lits are.0 (end_below end ends (length lits) are.1), count_cut end ends lits are.1)
+
+pub whole_count : (ends lits : List ℕ) (lists : List (List ℕ)) → IsCut ends lits → cut_at ends lits ≡ lists → length lits ≡ lit_count lists
+whole_count ends lits lists is view = omega (arith, count_cut 0 ends lits is.rising, ap lit_count view)
 
 part_kept : (from end : ℕ) (lits more : List ℕ) → from ≤ end → end ≤ length lits →
     slice_range (lits ++ more) from end ≡ slice_range lits from end

@@ -1,6 +1,7 @@
 -- Gates of which the operands stand apart: one gate more, how many there are, and the n-th.
-use Rattle.std.proofs.Common.{◌≡◌, refl, ap, ℕ, suc, zero, ◌<◌, List, [], ◌∷◌, ◌++◌, length, get_or, arith}
-use Rattle.gv_logic.specs.Circuits.{Gate}
+use Rattle.std.proofs.Common.{◌≡◌, refl, ap, ℕ, suc, zero, ◌+◌, ◌<◌, List, [], ◌∷◌, ◌++◌, length, get_or, arith}
+use Rattle.gv_logic.specs.Circuits.{Gate, operand_count}
+use Rattle.gv_logic.specs.LitLists.{lit_count}
 use Rattle.gv_logic.specs.Nodes.{gates_of}
 use Rattle.gv_logic.specs.declared.gates.Op.{Op}
 
@@ -19,6 +20,12 @@ length_gates [] [] same = refl
 length_gates [] (l ∷ lists) same = absurd (omega (arith, same))
 length_gates (o ∷ ops) [] same = refl
 length_gates (o ∷ ops) (l ∷ lists) same = ap suc (length_gates ops lists (omega (arith, same)))
+
+pub count_gates : (ops : List Op) (lists : List (List ℕ)) → length ops ≡ length lists → operand_count (gates_of ops lists) ≡ lit_count lists
+count_gates [] [] same = refl
+count_gates [] (l ∷ lists) same = absurd (omega (arith, same))
+count_gates (o ∷ ops) [] same = refl
+count_gates (o ∷ ops) (l ∷ lists) same = ap (λ n. length l + n) (count_gates ops lists (omega (arith, same)))
 
 pub nth_op : (ops : List Op) (lists : List (List ℕ)) (n : ℕ) (none : Op) (other : Gate) → length ops ≡ length lists → n < length ops →
     get_or ops n none ≡ (get_or (gates_of ops lists) n other).op

@@ -24,5 +24,9 @@ clauses_from p (g ∷ gs) = gate_clauses p g ++ clauses_from (p + 1) gs
 abbrev pub all_clauses : Circuit → List (List ℕ)
 all_clauses g = clauses_from g.inputs g.gates ++ (g.root ∷ []) ∷ []
 
+-- how many there are
+unfoldable pub clause_count : Circuit → ℕ
+clause_count g = length (all_clauses g)
+
 abbrev pub formula_of : Circuit → Formula
 formula_of g = record { variables = g.inputs + length g.gates; clauses = all_clauses g }

@@ -10,5 +10,6 @@ pub mod LitLists
 pub mod Literals
 pub mod Logs
 pub mod Nodes
+pub mod Opposites
 pub mod Partial
 pub mod Reading

@@ -1,5 +1,5 @@
 -- Words of private contracts alone, no rule: a list that is cut into lists, each up to its end.
-use Rattle.std.specs.Prelude.{◌≡◌, ℕ, ◌≤◌, ◌<◌, ◌^◌, List, [], ◌∷◌, length, slice_range, slice_index}
+use Rattle.std.specs.Prelude.{◌≡◌, ℕ, ◌+◌, ◌≤◌, ◌<◌, ◌^◌, List, [], ◌∷◌, length, slice_range, slice_index}
 
 -- the first list begins at `from`, each other one at the end of the one ahead of it
 abbrev pub cut_from : ℕ → List ℕ → List ℕ → List (List ℕ)
@@ -8,6 +8,11 @@ cut_from from (end ∷ ends) lits = slice_range lits from end ∷ cut_from end e
 
 abbrev pub cut_at : List ℕ → List ℕ → List (List ℕ)
 cut_at ends lits = cut_from 0 ends lits
+
+-- how many literals the lists have together
+abbrev pub lit_count : List (List ℕ) → ℕ
+lit_count [] = 0
+lit_count (lits ∷ lists) = length lits + lit_count lists
 
 -- where the n-th list begins
 abbrev pub start_of : List ℕ → ℕ → ℕ

@@ -53,6 +53,17 @@ impl Gates {
         }
     }
 
+    /// The same gates once more. O(operands).
+    pub fn copy(&self, alloc: Global) -> Result<Gates, NoMemory>
+        ensures { IfOk result (λ gates. gates ≡ self.now) }
+    {
+        Ok(Gates {
+            inputs: self.inputs,
+            nodes: self.nodes.copy(alloc)?,
+            root: self.root,
+        })
+    }
+
     /// The number of inputs.
     pub fn inputs(&self) -> u32
         ensures inputs { result ≡ self.now.inputs }
@@ -67,6 +78,13 @@ impl Gates {
         ensures formed { IsCircuit self.now }
     {
         self.nodes.count()
+    }
+
+    /// The number of operands of all gates.
+    pub(crate) fn operand_count(&self) -> u32
+        ensures { result ≡ operand_count self.now.gates }
+    {
+        self.nodes.operand_count()
     }
 
     /// What gate n asks of its operands, from gate 0.

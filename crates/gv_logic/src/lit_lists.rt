@@ -1,7 +1,7 @@
 //! Lists of literals, one after another in one list, so that none has memory of its own.
 
 ghost use Rattle.std.specs.Prelude.{◌≡◌, ◌<◌, ◌≤◌, ◌^◌, List, ℕ, [], ◌∷◌, ◌++◌, length, IfOk, OnOk, OnErr, slice_index_or};
-ghost use Rattle.gv_logic.specs.LitLists.{cut_at, start_of, IsCut};
+ghost use Rattle.gv_logic.specs.LitLists.{cut_at, lit_count, start_of, IsCut};
 
 use crate::Lit;
 use gv_base::NoMemory;
@@ -62,6 +62,13 @@ impl LitLists {
         ensures count { result ≡ length self.now }
     {
         self.ends.len() as u32
+    }
+
+    /// How many literals the lists have together. O(1).
+    pub(crate) fn literals(&self) -> u32
+        ensures { result ≡ lit_count self.now }
+    {
+        self.lits.len() as u32
     }
 
     /// The list of this number, from 0. O(1).

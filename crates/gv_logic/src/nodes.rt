@@ -1,7 +1,7 @@
 //! Gates one after another, with neither inputs nor a root. The operands of all stand in one list.
 
-ghost use Rattle.std.specs.Prelude.{◌≡◌, ◌<◌, ◌^◌, [], ◌∷◌, ◌++◌, length, slice_index_or, OnOk, OnErr};
-ghost use Rattle.gv_logic.specs.Circuits.{Gate};
+ghost use Rattle.std.specs.Prelude.{◌≡◌, ◌<◌, ◌^◌, [], ◌∷◌, ◌++◌, length, slice_index_or, IfOk, OnOk, OnErr};
+ghost use Rattle.gv_logic.specs.Circuits.{Gate, operand_count};
 
 use crate::lit_lists::LitLists;
 use crate::{Lit, Op};
@@ -52,12 +52,29 @@ impl Nodes {
         Ok(())
     }
 
+    /// The same gates once more. O(operands).
+    pub fn copy(&self, alloc: Global) -> Result<Nodes, NoMemory>
+        ensures { IfOk result (λ nodes. nodes ≡ self.now) }
+    {
+        Ok(Nodes {
+            ops: Vec::from_slice(alloc, &self.ops)?,
+            operands: self.operands.copy(alloc)?,
+        })
+    }
+
     /// The number of gates. O(1).
     #[tactic(auto, using(crate::proofs::NodeLemmas::length_gates))]
     pub fn count(&self) -> u32
         ensures { result ≡ length self.now }
     {
         self.operands.count()
+    }
+
+    /// The number of operands of all gates. O(1).
+    pub fn operand_count(&self) -> u32
+        ensures { result ≡ operand_count self.now }
+    {
+        self.operands.literals()
     }
 
     /// What gate n asks of its operands, from gate 0. O(1).

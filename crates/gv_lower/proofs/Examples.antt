@@ -1,5 +1,5 @@
 -- Values of the definitions on worked examples.
-use Rattle.std.specs.Prelude.{◌≡◌, ℕ, Bool, true, false, List, [], ◌∷◌, ◌++◌, Some, Option, option_map, map, codes, refl}
+use Rattle.std.specs.Prelude.{◌≡◌, ℕ, Bool, true, false, List, [], ◌∷◌, ◌++◌, None, Some, Option, option_map, map, codes, refl}
 use Rattle.gv_atom.specs.Reading.{read_atom}
 use Rattle.gv_expr.specs.DepRead.{read_dep}
 use Rattle.gv_expr.specs.RequiredRead.{read_required}
@@ -10,7 +10,8 @@ use Rattle.gv_facts.specs.declared.kinds.Status.TheVariants as statuses
 use Rattle.gv_facts.specs.declared.pkg.Pkg.{Pkg}
 use Rattle.gv_facts.specs.declared.profile.Profile.{Profile}
 use Rattle.gv_facts.specs.declared.rules.Rule.{Rule}
-use Rattle.gv_facts.specs.declared.rules.Effect.TheVariants.{Force}
+use Rattle.gv_facts.specs.declared.rules.Effect.{Effect}
+use Rattle.gv_facts.specs.declared.rules.Effect.TheVariants.{Force, Mask}
 use Rattle.gv_entry.specs.Allowed.{Parent}
 use Rattle.gv_logic.specs.Bytes.{number_bytes, circuit_bytes}
 use Rattle.gv_logic.specs.Circuits.{at, value, values}
@@ -40,6 +41,7 @@ profile_with rules = record {
   arch = codes "amd64";
   path = codes "base";
   status = statuses.Stable;
+  testing = false;
   iuse_implicit = [];
   expand = [];
   expand_implicit = [];
@@ -117,3 +119,63 @@ exactly_one_of_two = (refl, refl, refl)
 
 at_most_one_of_two : (allowed_at with_ab (codes "?? ( a !b )") (false ∷ true ∷ []) ≡ Some true) × (allowed_at with_ab (codes "?? ( a !b )") (true ∷ false ∷ []) ≡ Some false)
 at_most_one_of_two = (refl, refl)
+
+-- where a is preferred on, its input says that it is off
+abbrev preferring : Parent
+preferring = record with_ab { pkg = record (pkg_of (codes "app") (codes "p") Eight (codes "a" ∷ codes "b" ∷ [])) { iuse_plus = codes "a" ∷ [] } }
+
+one_of_two_preferred : (allowed_at preferring (codes "^^ ( a b )") (false ∷ false ∷ []) ≡ Some true) × (allowed_at preferring (codes "^^ ( a b )") (true ∷ true ∷ []) ≡ Some true)
+    × (allowed_at preferring (codes "^^ ( a b )") (true ∷ false ∷ []) ≡ Some false)
+one_of_two_preferred = (refl, refl, refl)
+
+-- Bytes of gates that a program written from the rules alone has, of app/p-1 beside x/y-1, x/y-2 and x/z-1, where f is forced and m masked.
+abbrev next_of : Pkg → Pkg
+next_of p = record p { version = codes "2"; pf = p.name ++ codes "-2" }
+
+abbrev rule_for : Effect → List ℕ → Rule
+rule_for effect flag = record { effect = effect; stable = false; atom = None; flag = flag; on = true }
+
+abbrev small : (iuse : List (List ℕ)) → Parent
+small iuse =
+    let y = pkg_of (codes "x") (codes "y") Eight [] in
+    parent_with Eight iuse (rule_for Force (codes "f") ∷ rule_for Mask (codes "m") ∷ []) (y ∷ next_of y ∷ pkg_of (codes "x") (codes "z") Eight (codes "a" ∷ codes "f" ∷ codes "m" ∷ []) ∷ [])
+
+abbrev allowed_bytes : Parent → List ℕ → Option (List ℕ)
+allowed_bytes c text = option_map (λ required. circuit_bytes (allowed_gates c required (required_flags c required))) (read_required text)
+
+-- an atom with two visible matches
+two_matches : class_bytes (small []) (codes "x/y") ≡ Some (
+    0 ∷ 0 ∷ 0 ∷ 0 ∷ 0 ∷ 0 ∷ 0 ∷ 8 ∷ 0 ∷ 0 ∷ 0 ∷ 0 ∷ 0 ∷ 1 ∷ 0 ∷ 0 ∷ 0 ∷ 0 ∷ 0 ∷ 0 ∷ 0 ∷ 0 ∷ 0 ∷ 0 ∷ 0 ∷ 0 ∷ 0 ∷ 0 ∷ 0 ∷ 0 ∷ 0 ∷ 0 ∷ 0 ∷ 1 ∷ 0 ∷ 0 ∷ 0 ∷ 2 ∷ 0 ∷ 0 ∷ 0 ∷ 6 ∷ 0 ∷ 0 ∷ 0 ∷ 8 ∷ 0 ∷ 0 ∷
+    0 ∷ 0 ∷ 1 ∷ 0 ∷ 0 ∷ 0 ∷ 10 ∷ 0 ∷ 0 ∷ 0 ∷ 0 ∷ 2 ∷ 0 ∷ 0 ∷ 0 ∷ 4 ∷ 0 ∷ 0 ∷ 0 ∷ 13 ∷ 0 ∷ 0 ∷ 0 ∷ 14 ∷ [])
+unfolding number_bytes
+two_matches = refl
+
+-- a conditional on a free flag
+free_conditional : class_bytes (small (codes "a" ∷ [])) (codes "a? ( x/none )") ≡ Some (
+    0 ∷ 0 ∷ 0 ∷ 1 ∷ 0 ∷ 0 ∷ 0 ∷ 8 ∷ 0 ∷ 0 ∷ 0 ∷ 0 ∷ 0 ∷ 1 ∷ 0 ∷ 0 ∷ 0 ∷ 0 ∷ 0 ∷ 0 ∷ 0 ∷ 0 ∷ 0 ∷ 1 ∷ 0 ∷ 0 ∷ 0 ∷ 0 ∷ 0 ∷ 0 ∷ 0 ∷ 0 ∷ 1 ∷ 0 ∷ 0 ∷ 0 ∷ 8 ∷ 1 ∷ 0 ∷ 0 ∷ 0 ∷ 2 ∷ 0 ∷ 0 ∷ 0 ∷ 1 ∷ 0 ∷ 0 ∷
+    0 ∷ 10 ∷ 0 ∷ 0 ∷ 0 ∷ 0 ∷ 1 ∷ 0 ∷ 0 ∷ 0 ∷ 12 ∷ 0 ∷ 0 ∷ 0 ∷ 0 ∷ 2 ∷ 0 ∷ 0 ∷ 0 ∷ 6 ∷ 0 ∷ 0 ∷ 0 ∷ 15 ∷ 0 ∷ 0 ∷ 0 ∷ 16 ∷ [])
+unfolding number_bytes
+free_conditional = refl
+
+-- one of two
+any_of_two : class_bytes (small []) (codes "|| ( x/y x/none )") ≡ Some (
+    0 ∷ 0 ∷ 0 ∷ 0 ∷ 0 ∷ 0 ∷ 0 ∷ 10 ∷ 0 ∷ 0 ∷ 0 ∷ 0 ∷ 0 ∷ 1 ∷ 0 ∷ 0 ∷ 0 ∷ 0 ∷ 0 ∷ 0 ∷ 0 ∷ 0 ∷ 0 ∷ 0 ∷ 0 ∷ 0 ∷ 0 ∷ 0 ∷ 0 ∷ 0 ∷ 0 ∷ 0 ∷ 0 ∷ 1 ∷ 0 ∷ 0 ∷ 0 ∷ 2 ∷ 0 ∷ 0 ∷ 0 ∷ 6 ∷ 0 ∷ 0 ∷ 0 ∷ 8 ∷ 1 ∷
+    0 ∷ 0 ∷ 0 ∷ 0 ∷ 1 ∷ 0 ∷ 0 ∷ 0 ∷ 2 ∷ 0 ∷ 0 ∷ 0 ∷ 10 ∷ 0 ∷ 0 ∷ 0 ∷ 12 ∷ 0 ∷ 0 ∷ 0 ∷ 0 ∷ 1 ∷ 0 ∷ 0 ∷ 0 ∷ 14 ∷ 0 ∷ 0 ∷ 0 ∷ 0 ∷ 2 ∷ 0 ∷ 0 ∷ 0 ∷ 4 ∷ 0 ∷ 0 ∷ 0 ∷ 17 ∷ 0 ∷ 0 ∷ 0 ∷ 18 ∷ [])
+unfolding number_bytes
+any_of_two = refl
+
+-- exactly one of three flags
+one_of_three : allowed_bytes (small (codes "a" ∷ codes "b" ∷ codes "c" ∷ [])) (codes "^^ ( a b c )") ≡ Some (
+    0 ∷ 0 ∷ 0 ∷ 3 ∷ 0 ∷ 0 ∷ 0 ∷ 11 ∷ 0 ∷ 0 ∷ 0 ∷ 0 ∷ 0 ∷ 1 ∷ 0 ∷ 0 ∷ 0 ∷ 0 ∷ 0 ∷ 0 ∷ 0 ∷ 0 ∷ 2 ∷ 0 ∷ 0 ∷ 0 ∷ 0 ∷ 0 ∷ 0 ∷ 0 ∷ 8 ∷ 1 ∷ 0 ∷ 0 ∷ 0 ∷ 2 ∷ 0 ∷ 0 ∷ 0 ∷ 8 ∷ 0 ∷ 0 ∷ 0 ∷ 0 ∷ 0 ∷ 0 ∷ 0 ∷
+    0 ∷ 2 ∷ 0 ∷ 0 ∷ 0 ∷ 2 ∷ 0 ∷ 0 ∷ 0 ∷ 12 ∷ 1 ∷ 0 ∷ 0 ∷ 0 ∷ 2 ∷ 0 ∷ 0 ∷ 0 ∷ 12 ∷ 0 ∷ 0 ∷ 0 ∷ 2 ∷ 0 ∷ 0 ∷ 0 ∷ 0 ∷ 2 ∷ 0 ∷ 0 ∷ 0 ∷ 4 ∷ 0 ∷ 0 ∷ 0 ∷ 16 ∷ 1 ∷ 0 ∷ 0 ∷ 0 ∷ 2 ∷ 0 ∷ 0 ∷ 0 ∷ 16 ∷ 0 ∷ 0 ∷
+    0 ∷ 4 ∷ 1 ∷ 0 ∷ 0 ∷ 0 ∷ 3 ∷ 0 ∷ 0 ∷ 0 ∷ 10 ∷ 0 ∷ 0 ∷ 0 ∷ 14 ∷ 0 ∷ 0 ∷ 0 ∷ 18 ∷ 0 ∷ 0 ∷ 0 ∷ 0 ∷ 2 ∷ 0 ∷ 0 ∷ 0 ∷ 20 ∷ 0 ∷ 0 ∷ 0 ∷ 23 ∷ 0 ∷ 0 ∷ 0 ∷ 0 ∷ 1 ∷ 0 ∷ 0 ∷ 0 ∷ 24 ∷ 0 ∷ 0 ∷ 0 ∷ 26 ∷ [])
+unfolding number_bytes
+one_of_three = refl
+
+-- two items on one free flag
+items_of_a_free_flag : class_bytes (small (codes "a" ∷ [])) (codes "=x/z-1[a?,-a]") ≡ Some (
+    0 ∷ 0 ∷ 0 ∷ 1 ∷ 0 ∷ 0 ∷ 0 ∷ 10 ∷ 0 ∷ 0 ∷ 0 ∷ 0 ∷ 0 ∷ 1 ∷ 0 ∷ 0 ∷ 0 ∷ 0 ∷ 0 ∷ 0 ∷ 0 ∷ 0 ∷ 0 ∷ 1 ∷ 0 ∷ 0 ∷ 0 ∷ 1 ∷ 0 ∷ 0 ∷ 0 ∷ 0 ∷ 1 ∷ 0 ∷ 0 ∷ 0 ∷ 1 ∷ 0 ∷ 0 ∷ 0 ∷ 2 ∷ 1 ∷ 0 ∷ 0 ∷ 0 ∷ 2 ∷ 0 ∷
+    0 ∷ 0 ∷ 9 ∷ 0 ∷ 0 ∷ 0 ∷ 11 ∷ 0 ∷ 0 ∷ 0 ∷ 0 ∷ 1 ∷ 0 ∷ 0 ∷ 0 ∷ 12 ∷ 1 ∷ 0 ∷ 0 ∷ 0 ∷ 1 ∷ 0 ∷ 0 ∷ 0 ∷ 14 ∷ 0 ∷ 0 ∷ 0 ∷ 0 ∷ 1 ∷ 0 ∷ 0 ∷ 0 ∷ 16 ∷ 0 ∷ 0 ∷ 0 ∷ 0 ∷ 2 ∷ 0 ∷ 0 ∷ 0 ∷ 6 ∷ 0 ∷ 0 ∷ 0 ∷
+    19 ∷ 0 ∷ 0 ∷ 0 ∷ 20 ∷ [])
+unfolding number_bytes
+items_of_a_free_flag = refl

@@ -1,5 +1,5 @@
 -- A flag is found among the flags of a query, which ascend, by a search in halves.
-use Rattle.std.proofs.Common.{◌≡◌, ℕ, suc, zero, ◌+◌, ◌*◌, ◌<◌, ◌≤◌, true, false, if◌then◌else◌, List, [], ◌∷◌, length, get_or, refl, sym, ap, subst, ◌∙◌, arith, ⊎_elim}
+use Rattle.std.proofs.Common.{◌≡◌, ℕ, suc, zero, ◌+◌, ◌*◌, ◌<◌, ◌≤◌, Bool, true, false, if◌then◌else◌, List, [], ◌∷◌, length, get_or, refl, sym, ap, subst, ◌∙◌, arith, ⊎_elim}
 use Rattle.std.proofs.lemmas.Bool.{cases_lt}
 use Rattle.std.proofs.lemmas.List.Elements.{All-from_recursion}
 use Rattle.std.specs.declared.cmp.Ordering.{Ordering}
@@ -11,6 +11,7 @@ use Rattle.std.specs.Str.{bytes_eq}
 use Rattle.gv_base.specs.Laws.{ByteOrderLaw}
 use Rattle.gv_base.specs.Order.{IsAscending, byte_cmp}
 use Rattle.gv_lower.specs.QueryGates.{input_or}
+use Rattle.gv_lower.specs.TreeGates.{signed}
 
 module _ (law : ByteOrderLaw) (flag : List ℕ) where
   behind : (f g : List ℕ) → byte_cmp flag g ≡ Less → ordering_index (byte_cmp g flag) ≡ 2
@@ -48,30 +49,30 @@ module _ (law : ByteOrderLaw) (flag : List ℕ) where
   greater≢equal : Greater ≡ Equal → ⊥
   greater≢equal e = omega (arith, ap ordering_index e)
 
-  there : (n : ℕ) (flags : List (List ℕ)) → IsAscending flags → (i : ℕ) → i < length flags → HoldsAt (λ y. byte_cmp y flag ≡ Equal) flags i → (none : ℕ) → input_or n flags flag none ≡ 2 * (n + i)
+  there : (n : ℕ) (flags : List (List ℕ)) → IsAscending flags → (i : ℕ) → i < length flags → HoldsAt (λ y. byte_cmp y flag ≡ Equal) flags i → (preferred : Bool) (none : ℕ) → input_or n flags flag preferred none ≡ signed preferred (2 * (n + i))
   unfolding IsStrictlySortedBy
-  there n [] up i lt at none = absurd (omega arith)
-  there n (f ∷ fs) up zero lt at none =
-      let turned : 2 * n ≡ 2 * (n + 0) = omega arith in ap (λ b. if b then 2 * n else input_or (n + 1) fs flag none) (same f (at [])) ∙ turned
-  there n (f ∷ fs) up (suc i) lt at none =
+  there n [] up i lt at preferred none = absurd (omega arith)
+  there n (f ∷ fs) up zero lt at preferred none =
+      let turned : 2 * n ≡ 2 * (n + 0) = omega arith in ap (λ b. if b then signed preferred (2 * n) else input_or (n + 1) fs flag preferred none) (same f (at [])) ∙ ap (signed preferred) turned
+  there n (f ∷ fs) up (suc i) lt at preferred none =
       let turned : 2 * (n + 1 + i) ≡ 2 * (n + suc i) = omega arith in
       let before : byte_cmp f (get_or fs i []) ≡ Less = All-from_recursion (λ y. byte_cmp f y ≡ Less) fs up.0 i [] (omega (arith, lt)) in
       let found : get_or fs i [] ≡ flag = law.exact (get_or fs i []) flag (at []) in
-      ap (λ b. if b then 2 * n else input_or (n + 1) fs flag none) (differs f (λ e. less≢equal (sym (subst (λ g. byte_cmp f g ≡ Less) found before) ∙ e)))
-      ∙ (there (n + 1) fs up.1 i (omega (arith, lt)) at none ∙ turned)
+      ap (λ b. if b then signed preferred (2 * n) else input_or (n + 1) fs flag preferred none) (differs f (λ e. less≢equal (sym (subst (λ g. byte_cmp f g ≡ Less) found before) ∙ e)))
+      ∙ (there (n + 1) fs up.1 i (omega (arith, lt)) at preferred none ∙ ap (signed preferred) turned)
 
-  absent : (n : ℕ) (flags : List (List ℕ)) → ((k : ℕ) (d : List ℕ) → k < length flags → byte_cmp (get_or flags k d) flag ≡ Equal → ⊥) → (none : ℕ) → input_or n flags flag none ≡ none
-  absent n [] apart none = refl
-  absent n (f ∷ fs) apart none =
-      ap (λ b. if b then 2 * n else input_or (n + 1) fs flag none) (differs f (apart 0 [] (omega arith)))
-      ∙ absent (n + 1) fs (λ k d lt. apart (suc k) d (omega (arith, lt))) none
+  absent : (n : ℕ) (flags : List (List ℕ)) → ((k : ℕ) (d : List ℕ) → k < length flags → byte_cmp (get_or flags k d) flag ≡ Equal → ⊥) → (preferred : Bool) (none : ℕ) → input_or n flags flag preferred none ≡ none
+  absent n [] apart preferred none = refl
+  absent n (f ∷ fs) apart preferred none =
+      ap (λ b. if b then signed preferred (2 * n) else input_or (n + 1) fs flag preferred none) (differs f (apart 0 [] (omega arith)))
+      ∙ absent (n + 1) fs (λ k d lt. apart (suc k) d (omega (arith, lt))) preferred none
 
-  pub input_there : (flags : List (List ℕ)) → IsAscending flags → (i : ℕ) → i < length flags → HoldsAt (λ y. byte_cmp y flag ≡ Equal) flags i → (none : ℕ) → input_or 0 flags flag none ≡ 2 * i
-  input_there flags up i lt at none = let turned : 2 * (0 + i) ≡ 2 * i = omega arith in there 0 flags up i lt at none ∙ turned
+  pub input_there : (flags : List (List ℕ)) → IsAscending flags → (i : ℕ) → i < length flags → HoldsAt (λ y. byte_cmp y flag ≡ Equal) flags i → (preferred : Bool) (none : ℕ) → input_or 0 flags flag preferred none ≡ signed preferred (2 * i)
+  input_there flags up i lt at preferred none = let turned : 2 * (0 + i) ≡ 2 * i = omega arith in there 0 flags up i lt at preferred none ∙ ap (signed preferred) turned
 
   pub input_absent : (flags : List (List ℕ)) → IsAscending flags → (i : ℕ)
-      → (IsNonDecreasingBy (λ y. ordering_index (byte_cmp y flag)) flags → IsPartitionPoint (λ y. byte_cmp y flag ≡ Less) (λ y. byte_cmp y flag ≡ Greater) flags i) → (none : ℕ) → input_or 0 flags flag none ≡ none
-  input_absent flags up i parted none = absent 0 flags apart none
+      → (IsNonDecreasingBy (λ y. ordering_index (byte_cmp y flag)) flags → IsPartitionPoint (λ y. byte_cmp y flag ≡ Less) (λ y. byte_cmp y flag ≡ Greater) flags i) → (preferred : Bool) (none : ℕ) → input_or 0 flags flag preferred none ≡ none
+  input_absent flags up i parted preferred none = absent 0 flags apart preferred none
     where
       parts : IsPartitionPoint (λ y. byte_cmp y flag ≡ Less) (λ y. byte_cmp y flag ≡ Greater) flags i
       parts = parted (rises flags up)

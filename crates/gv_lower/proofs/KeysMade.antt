@@ -1,6 +1,6 @@
 -- Keys as the code makes them are those of the definition.
 use Rattle.std.proofs.Common.{◌≡◌, ℕ, zero, suc, ◌+◌, ◌<◌, Bool, true, false, ◌&&◌, cond, List, [], ◌∷◌, ◌++◌, length, filter, map, get_or, refl, sym, ap, subst, ◌∙◌, None, Some, append_assoc, length-append, arith}
-use Rattle.std.specs.Prelude.{Option, Result, Ok, Err, OnOk, flat_map, if◌then◌else◌, slice_get}
+use Rattle.std.specs.Prelude.{Option, Result, Ok, Err, OnErr, OnOk, flat_map, if◌then◌else◌, slice_get}
 use Rattle.std.specs.List.{AllByRecursion}
 use Rattle.std.specs.Option.{option_map_or}
 use Rattle.std.specs.Str.{bytes_eq}
@@ -21,8 +21,9 @@ use Rattle.gv_entry.specs.Allowed.{Parent}
 use Rattle.gv_usestate.specs.Kinds.{IsKind, IsOneOf, flag_kind}
 use Rattle.gv_lower.specs.Around.{alone}
 use Rattle.gv_lower.specs.Keys.{atom_key, candidate_key, class_key, flags_key, other_key, own_key, required_key}
-use Rattle.gv_lower.specs.KeysAround.{AreKnown, IsKnownAt, found_key, own_keys, place_key, site_key}
-use Rattle.gv_lower.specs.Sites.{KnownFlag, PlaceSite, known_at, known_of, matches_at, place_site, site_of}
+use Rattle.gv_lower.specs.KeysAround.{Begins, AreKnown, IsKnownAt, found_key, own_keys, place_key, site_key}
+use Rattle.gv_lower.specs.Sites.{KnownFlag, PlaceSite, known_at, known_of, place_site, site_of}
+use Rattle.gv_visible.specs.NamedPkgs.{matches_at}
 use Rattle.gv_lower.proofs.SameAtoms.{append_more}
 
 map-map : {A B C : Type 0} (g : B → C) (f : A → B) (xs : List A) → map g (map f xs) ≡ map (λ x. g (f x)) xs
@@ -200,3 +201,8 @@ class_made c profiles class q profile pkgs flags sites old mid new own others sa
     ∙ ap (λ x. old ++ (flags_key c (dep_mentions (deps class)) ++ x))
     (flat_map-map (site_key c.profile c.level c.among) (site_of profiles c.among) (wanted_atoms (deps class))
     ∙ ap (λ k. flat_map k (wanted_atoms (deps class))) (fun_ext (λ a. site_same c a profiles)))))))))))
+
+-- bytes that begin with those that begin with others
+pub begins_behind : {T E : Type 0} (r : Result T E) (a b c : List ℕ) → Begins a b → Begins b c → OnErr r (Begins a c)
+begins_behind (Ok x) a b c first second = tt
+begins_behind (Err e) a b c first second = (first.0 ++ second.0, second.1 ∙ ap (λ k. k ++ second.0) first.1 ∙ append_assoc a first.0 second.0)

@@ -27,5 +27,4 @@ mod SameStates
 mod SameTrees
 mod SameAtoms
 mod SameQueries
-mod Gathering
 mod KeysMade

@@ -5,30 +5,36 @@ use Rattle.std.specs.Str.{bytes_eq}
 use Rattle.gv_expr.specs.Dep.{Dep, deps}
 use Rattle.gv_expr.specs.Required.{Req, reqs}
 use Rattle.gv_facts.specs.AtomMet.{atom_met}
-use Rattle.gv_entry.specs.Allowed.{Parent, assignment, bit_or, class_holds, is_allowed, is_failing, is_forced, parent_state, required_holds}
-use Rattle.gv_entry.specs.Holds.{deps_hold, empty_holds, reqs_hold}
+use Rattle.gv_facts.specs.Preferred.{preferred_on}
+use Rattle.gv_entry.specs.Allowed.{Parent, assignment, class_holds, is_allowed, is_failing, is_forced, parent_state, required_holds, turned, value_or}
+use Rattle.gv_entry.specs.Holds.{deps_hold, empty_holds, is_met, reqs_hold}
 use Rattle.gv_logic.specs.declared.gates.Op.TheVariants.{And}
 use Rattle.gv_logic.specs.Literals.{lit_true}
 use Rattle.gv_logic.specs.Circuits.{AreEarlier, Gate, at, value, values, values_from}
 use Rattle.gv_lower.specs.Plans.{Part, Parts}
 use Rattle.gv_lower.specs.Groups.{all_of}
-use Rattle.gv_lower.specs.TreeGates.{Base, req_plans}
+use Rattle.gv_lower.specs.TreeGates.{Base, req_plans, signed}
 use Rattle.gv_lower.specs.AtomGates.{atom_plan}
 use Rattle.gv_lower.specs.QueryGates.{allowed_gates, base_of, class_parts, failing_gates, failing_items, false_at, first_gates, input_or, required_part, true_at}
 use Rattle.gv_entry.specs.Allowed.{item_holds}
-use Rattle.gv_lower.proofs.Truth.{all_lits, all_on, and_on, even_lit, odd_lit}
+use Rattle.gv_logic.specs.Opposites.{even_lit, odd_lit}
+use Rattle.gv_lower.proofs.Truth.{all_lits, all_on, and_on, signed_true}
 use Rattle.gv_lower.proofs.Meaning.{Solves, solves_split}
 use Rattle.gv_lower.proofs.TreeMeaning.{dep_values, deps_all, deps_mean, required_means}
 use Rattle.gv_lower.proofs.AtomMeaning.{atom_means}
-use Rattle.gv_lower.proofs.Placing.{BaseBelow, Below, atom_placed_at, deps_placed, earlier_both, placed_built, placed_gate, reqs_placed}
+use Rattle.gv_lower.proofs.Placing.{BaseBelow, Below, atom_placed_at, deps_placed, earlier_both, placed_built, placed_gate, reqs_placed, signed_below}
 use Rattle.gv_lower.proofs.Solved.{solved, values_front}
 
 -- A flag's literal among the inputs.
-input_true : (v : ℕ → Bool) (n : ℕ) (flags : List (List ℕ)) (bits : List Bool) (flag : List ℕ) (other : ℕ) → length bits ≡ length flags
-    → ((i : ℕ) → i < length bits → v (n + i) ≡ at bits i) → lit_true v (input_or n flags flag other) ≡ bit_or flags bits flag (lit_true v other)
-input_true v n [] bits flag other long is = refl
-input_true v n (f ∷ fs) [] flag other long is = absurd (omega (arith, long))
-input_true v n (f ∷ fs) (b ∷ bs) flag other long is = by (bytes_eq f flag) (input_true v (n + 1) fs bs flag other (omega (arith, long)) later)
+turned_met : (preferred value : Bool) → is_met preferred value ≡ turned preferred value
+turned_met true value = refl
+turned_met false value = refl
+
+input_true : (v : ℕ → Bool) (n : ℕ) (flags : List (List ℕ)) (bits : List Bool) (flag : List ℕ) (preferred : Bool) (other : ℕ) → length bits ≡ length flags
+    → ((i : ℕ) → i < length bits → v (n + i) ≡ at bits i) → lit_true v (input_or n flags flag preferred other) ≡ value_or flags bits flag preferred (lit_true v other)
+input_true v n [] bits flag preferred other long is = refl
+input_true v n (f ∷ fs) [] flag preferred other long is = absurd (omega (arith, long))
+input_true v n (f ∷ fs) (b ∷ bs) flag preferred other long is = by (bytes_eq f flag) (input_true v (n + 1) fs bs flag preferred other (omega (arith, long)) later)
   where
     later : (i : ℕ) → i < length bs → v (n + 1 + i) ≡ at bs i
     later i lt = let e : n + 1 + i ≡ n + suc i = omega arith in ap v e ∙ is (suc i) (omega (arith, lt))
@@ -36,17 +42,17 @@ input_true v n (f ∷ fs) (b ∷ bs) flag other long is = by (bytes_eq f flag) (
     first : v n ≡ b
     first = let e : n ≡ n + 0 = omega arith in ap v e ∙ is 0 (omega arith)
 
-    by : (same : Bool) → lit_true v (input_or (n + 1) fs flag other) ≡ bit_or fs bs flag (lit_true v other)
-        → lit_true v (if same then 2 * n else input_or (n + 1) fs flag other) ≡ (if same then b else bit_or fs bs flag (lit_true v other))
-    by true rest = even_lit v n ∙ first
+    by : (same : Bool) → lit_true v (input_or (n + 1) fs flag preferred other) ≡ value_or fs bs flag preferred (lit_true v other)
+        → lit_true v (if same then signed preferred (2 * n) else input_or (n + 1) fs flag preferred other) ≡ (if same then turned preferred b else value_or fs bs flag preferred (lit_true v other))
+    by true rest = signed_true v preferred (2 * n) ∙ (turned_met preferred (lit_true v (2 * n)) ∙ ap (turned preferred) (even_lit v n ∙ first))
     by false rest = rest
 
-input_below : (n : ℕ) (flags : List (List ℕ)) (flag : List ℕ) (other low : ℕ) → n + length flags ≤ low → other < 2 * low → input_or n flags flag other < 2 * low
-input_below n [] flag other low le lt = lt
-input_below n (f ∷ fs) flag other low le lt = by (bytes_eq f flag) (input_below (n + 1) fs flag other low (omega (arith, le)) lt)
+input_below : (n : ℕ) (flags : List (List ℕ)) (flag : List ℕ) (preferred : Bool) (other low : ℕ) → n + length flags ≤ low → other < 2 * low → input_or n flags flag preferred other < 2 * low
+input_below n [] flag preferred other low le lt = lt
+input_below n (f ∷ fs) flag preferred other low le lt = by (bytes_eq f flag) (input_below (n + 1) fs flag preferred other low (omega (arith, le)) lt)
   where
-    by : (same : Bool) → input_or (n + 1) fs flag other < 2 * low → (if same then 2 * n else input_or (n + 1) fs flag other) < 2 * low
-    by true rest = omega (arith, le)
+    by : (same : Bool) → input_or (n + 1) fs flag preferred other < 2 * low → (if same then signed preferred (2 * n) else input_or (n + 1) fs flag preferred other) < 2 * low
+    by true rest = signed_below low preferred (2 * n) (omega (arith, le))
     by false rest = rest
 
 module _ (c : Parent) (flags : List (List ℕ)) where
@@ -61,7 +67,7 @@ module _ (c : Parent) (flags : List (List ℕ)) where
 
   pub base_below : BaseBelow (k + 2) base
   base_below = record {
-    flag = λ f. input_below 0 flags f (if is_forced (parent_state c f) then true_at k else false_at k) (k + 2) (omega arith) (by (is_forced (parent_state c f)));
+    flag = λ f. input_below 0 flags f (preferred_on c.pkg f) (if is_forced (parent_state c f) then true_at k else false_at k) (k + 2) (omega arith) (by (is_forced (parent_state c f)));
     on = omega arith;
     off = omega arith;
   }
@@ -101,8 +107,8 @@ module _ (c : Parent) (flags : List (List ℕ)) where
         other false = false_is
 
         each : (flag : List ℕ) → lit_true v (base.flag flag) ≡ assignment c flags bits flag
-        each flag = input_true v 0 flags bits flag (if is_forced (parent_state c flag) then true_at k else false_at k) long input
-            ∙ ap (bit_or flags bits flag) (other (is_forced (parent_state c flag)))
+        each flag = input_true v 0 flags bits flag (preferred_on c.pkg flag) (if is_forced (parent_state c flag) then true_at k else false_at k) long input
+            ∙ ap (value_or flags bits flag (preferred_on c.pkg flag)) (other (is_forced (parent_state c flag)))
 
   -- REQUIRED_USE alone
   module _ (required : List Req) where

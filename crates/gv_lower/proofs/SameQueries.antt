@@ -1,15 +1,17 @@
 -- Queries with the same keys are one and the same.
-use Rattle.std.proofs.Common.{◌≡◌, ℕ, ◌+◌, false, if◌then◌else◌, List, [], ◌∷◌, ◌++◌, length, refl, sym, ap, ◌∙◌}
+use Rattle.std.proofs.Common.{◌≡◌, ℕ, ◌+◌, false, if◌then◌else◌, List, [], ◌∷◌, ◌++◌, length, map, refl, sym, ap, ◌∙◌}
 use Rattle.std.specs.Prelude.{flat_map, sum_by}
 use Rattle.std.specs.List.{AllByRecursion}
 use Rattle.std.proofs.lemmas.List.{length-map, map-append}
 use Rattle.std.proofs.lemmas.List.Sums.{sum_by-cons}
+use Rattle.gv_base.specs.Order.{has_text}
 use Rattle.gv_expr.specs.Dep.{Dep, deps}
 use Rattle.gv_expr.specs.DepGrammar.{dep_tokens}
 use Rattle.gv_expr.specs.Mentions.{dep_mentions, req_mentions, wanted_atoms}
 use Rattle.gv_expr.specs.Required.{Req, reqs}
 use Rattle.gv_expr.specs.RequiredGrammar.{req_tokens}
-use Rattle.gv_entry.specs.Allowed.{Parent, parent_state}
+use Rattle.gv_facts.specs.Preferred.{preferred, preferred_on}
+use Rattle.gv_entry.specs.Allowed.{Parent, is_forced, parent_state}
 use Rattle.gv_entry.specs.Holds.{empty_holds}
 use Rattle.gv_entry.specs.Queries.{class_flags, required_flags}
 use Rattle.gv_entry.specs.Weight.{atom_weight, weight}
@@ -42,12 +44,19 @@ parts_by k rs ds = record {
 abbrev failing_by : (k : ℕ) → ClassParts → Circuit
 failing_by k x = failing_of k (x.behind + length x.class.gates) x
 
-module _ (c d : Parent) (eapi : c.pkg.eapi ≡ d.pkg.eapi) where
+module _ (c d : Parent) (eapi : c.pkg.eapi ≡ d.pkg.eapi) (plus : c.pkg.iuse_plus ≡ d.pkg.iuse_plus) where
+  same_preferred : (flag : List ℕ) → preferred_on c.pkg flag ≡ preferred_on d.pkg flag
+  same_preferred flag = ap (λ fs. has_text fs flag) plus
+
+  same_values : (fs gs : List (List ℕ)) → fs ≡ gs → preferred c.pkg fs ≡ preferred d.pkg gs
+  same_values fs gs e = ap (λ (ps : List (List ℕ)). map (λ flag. has_text ps flag) fs) plus ∙ ap (preferred d.pkg) e
+
   base_agrees : (fs mentions : List (List ℕ)) → flags_key c mentions ≡ flags_key d mentions
       → AllByRecursion (Agree (base_of c fs).flag (base_of d fs).flag (true_at (length fs)) (false_at (length fs))) mentions
   base_agrees fs mentions e =
       all_weaker (λ flag. own_key (parent_state c flag) ≡ own_key (parent_state d flag)) (Agree (base_of c fs).flag (base_of d fs).flag (true_at (length fs)) (false_at (length fs)))
-      (λ flag same. ap (λ b. input_or 0 fs flag (if b then true_at (length fs) else false_at (length fs))) (same_forced (parent_state c flag) (parent_state d flag) same)) mentions
+      (λ flag same. ap (λ p. input_or 0 fs flag p (if is_forced (parent_state c flag) then true_at (length fs) else false_at (length fs))) (same_preferred flag)
+      ∙ ap (λ b. input_or 0 fs flag (preferred_on d.pkg flag) (if b then true_at (length fs) else false_at (length fs))) (same_forced (parent_state c flag) (parent_state d flag) same)) mentions
       (all_same (λ flag. own_key (parent_state c flag)) (λ flag. own_key (parent_state d flag)) mentions e)
 
   required_plans : (fs : List (List ℕ)) (required : List Req) → required_key c required ≡ required_key d required
@@ -73,6 +82,7 @@ module _ (c d : Parent) (eapi : c.pkg.eapi ≡ d.pkg.eapi) where
   pub same_allowed : (required : List Req) → required_key c required ≡ required_key d required → HaveSameAllowed c d required
   same_allowed required e = record {
     flags = flags;
+    values = same_values (required_flags c required) (required_flags d required) flags;
     gates = ap (λ rs. allowed_by (length (required_flags c required)) rs) (required_plans (required_flags c required) required e) ∙ ap (allowed_gates d required) flags;
     weight = weights required [] tt;
   }
@@ -83,6 +93,7 @@ module _ (c d : Parent) (eapi : c.pkg.eapi ≡ d.pkg.eapi) where
   pub same_failing : (required : List Req) (class : List Dep) → query_key c required class ≡ query_key d required class → HaveSameFailing c d required class
   same_failing required class e = record {
     flags = flags;
+    values = same_values (class_flags c required class) (class_flags d required class) flags;
     gates = ap (failing_by (length fs)) parts ∙ ap (failing_gates d required class) flags;
     items = ap (λ x. x.class.lits) parts ∙ ap (failing_items d required class) flags;
     weight = weights required class paired;

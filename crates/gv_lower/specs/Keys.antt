@@ -1,10 +1,12 @@
--- Keys of queries: all that the gates, the flags and the weight of a query rest on, besides the package and the expressions.
+-- Keys of queries: all that the gates, the flags and the weight of a query rest on, besides the package, which prefers values of its
+-- flags, and the expressions.
 use Rattle.std.specs.Prelude.{◌≡◌, ℕ, List, [], ◌∷◌, ◌++◌, map, flat_map}
 use Rattle.gv_atom.specs.declared.atom.Atom.{Atom}
 use Rattle.gv_atom.specs.declared.items.UseItem.{UseItem}
 use Rattle.gv_expr.specs.Dep.{Dep, deps}
 use Rattle.gv_expr.specs.Mentions.{dep_mentions, req_mentions, wanted_atoms}
 use Rattle.gv_expr.specs.Required.{Req, reqs}
+use Rattle.gv_facts.specs.Preferred.{preferred}
 use Rattle.gv_facts.specs.States.{state}
 use Rattle.gv_facts.specs.declared.kinds.FlagState.{FlagState}
 use Rattle.gv_facts.specs.declared.kinds.FlagState.TheVariants.{Absent, Off, On, Free}
@@ -52,12 +54,14 @@ query_key c required class = required_key c required ++ class_key c class
 -- The queries of two parents about REQUIRED_USE alone are one and the same.
 pub record HaveSameAllowed (c d : Parent) (required : List Req) : Type 0 where
   pub flags : required_flags c required ≡ required_flags d required
+  pub values : preferred c.pkg (required_flags c required) ≡ preferred d.pkg (required_flags d required)
   pub gates : allowed_gates c required (required_flags c required) ≡ allowed_gates d required (required_flags d required)
   pub weight : weight c required [] ≡ weight d required []
 
 -- Those about a class are.
 pub record HaveSameFailing (c d : Parent) (required : List Req) (class : List Dep) : Type 0 where
   pub flags : class_flags c required class ≡ class_flags d required class
+  pub values : preferred c.pkg (class_flags c required class) ≡ preferred d.pkg (class_flags d required class)
   pub gates : failing_gates c required class (class_flags c required class) ≡ failing_gates d required class (class_flags d required class)
   pub items : failing_items c required class (class_flags c required class) ≡ failing_items d required class (class_flags d required class)
   pub weight : weight c required class ≡ weight d required class

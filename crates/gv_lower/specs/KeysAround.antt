@@ -38,3 +38,7 @@ place_key profile level pkgs site = found_key profile level site.flags (slice_ge
 -- of all places of an atom, and the mark at the end
 abbrev pub site_key : Profile → Level → List Pkg → List PlaceSite → List ℕ
 site_key profile level pkgs sites = flat_map (place_key profile level pkgs) sites ++ 0 ∷ []
+
+-- these bytes begin with those
+abbrev pub Begins : List ℕ → List ℕ → Type 0
+Begins these more = (rest : List ℕ) × (more ≡ these ++ rest)

@@ -14,5 +14,4 @@ pub mod Weigh
 pub mod Parent
 pub mod Keys
 pub mod KeysAround
-pub mod Mentions
 pub mod Sites

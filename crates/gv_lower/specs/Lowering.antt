@@ -1,7 +1,8 @@
 -- What lowering answers.
-use Rattle.std.specs.Prelude.{◌≡◌, ℕ, ◌<◌, ◌≤◌, List, [], length, Result, Ok, Err}
+use Rattle.std.specs.Prelude.{◌≡◌, ℕ, Bool, ◌<◌, ◌≤◌, List, [], length, Result, Ok, Err}
 use Rattle.gv_expr.specs.Dep.{Dep}
 use Rattle.gv_expr.specs.Required.{Req}
+use Rattle.gv_facts.specs.Preferred.{preferred}
 use Rattle.gv_entry.specs.Allowed.{Parent}
 use Rattle.gv_entry.specs.Weight.{weight}
 use Rattle.gv_entry.specs.Queries.{class_flags, required_flags}
@@ -12,11 +13,12 @@ use Rattle.gv_lower.specs.declared.query.LowerFault.{LowerFault}
 use Rattle.gv_lower.specs.declared.query.LowerFault.TheVariants.{Flags, Weight, NoMemory}
 use Rattle.gv_lower.specs.declared.query.Query.{Query}
 
--- the query has these gates, flags and literals of top items
-pub record IsQuery (circuit : Circuit) (named : List (List ℕ)) (lits : List ℕ) (q : Query) : Type 0 where
+-- the query has these gates, flags, literals of top items and preferred values
+pub record IsQuery (circuit : Circuit) (named : List (List ℕ)) (lits : List ℕ) (values : List Bool) (q : Query) : Type 0 where
   pub gates : q.gates ≡ circuit
   pub flags : q.flags ≡ named
   pub items : q.items ≡ lits
+  pub preferred : q.preferred ≡ values
 
 -- of a query with these flags and this weight
 abbrev pub Lowered : List (List ℕ) → (weight : ℕ) → (Query → Type 0) → Result Query LowerFault → Type 0
@@ -42,9 +44,10 @@ LightWeight weight (Err NoMemory) = Unit {0}
 -- the query about REQUIRED_USE alone, and that about a class
 abbrev pub LoweredAllowed : Parent → List Req → Result Query LowerFault → Type 0
 LoweredAllowed c required result =
-    Lowered (required_flags c required) (weight c required []) (IsQuery (allowed_gates c required (required_flags c required)) (required_flags c required) []) result
+    Lowered (required_flags c required) (weight c required []) (IsQuery (allowed_gates c required (required_flags c required)) (required_flags c required) [] (preferred c.pkg (required_flags c required))) result
 
 abbrev pub LoweredFailing : Parent → List Req → List Dep → Result Query LowerFault → Type 0
 LoweredFailing c required class result =
     Lowered (class_flags c required class) (weight c required class)
-    (IsQuery (failing_gates c required class (class_flags c required class)) (class_flags c required class) (failing_items c required class (class_flags c required class))) result
+    (IsQuery (failing_gates c required class (class_flags c required class)) (class_flags c required class) (failing_items c required class (class_flags c required class))
+    (preferred c.pkg (class_flags c required class))) result

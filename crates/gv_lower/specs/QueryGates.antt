@@ -1,21 +1,24 @@
--- The gates of a query. Inputs are the query's flags; the first gates are one that is true and one that is false.
-use Rattle.std.specs.Prelude.{ℕ, ◌+◌, ◌*◌, false, if◌then◌else◌, List, [], ◌∷◌, ◌++◌, length}
+-- The gates of a query. Inputs are the query's flags, each on where the flag hasn't its preferred value; the first gates are one
+-- that is true and one that is false.
+use Rattle.std.specs.Prelude.{ℕ, ◌+◌, ◌*◌, Bool, false, if◌then◌else◌, List, [], ◌∷◌, ◌++◌, length}
 use Rattle.std.specs.Str.{bytes_eq}
 use Rattle.gv_expr.specs.Dep.{Dep, deps}
 use Rattle.gv_expr.specs.Required.{Req, reqs}
+use Rattle.gv_facts.specs.Preferred.{preferred_on}
 use Rattle.gv_entry.specs.Allowed.{Parent, parent_state, is_forced}
 use Rattle.gv_entry.specs.Holds.{empty_holds}
 use Rattle.gv_logic.specs.declared.gates.Op.TheVariants.{And, Or}
 use Rattle.gv_logic.specs.Circuits.{Gate, Circuit}
 use Rattle.gv_lower.specs.Plans.{Part, Parts, in_turn, built_on}
 use Rattle.gv_lower.specs.Groups.{all_of}
-use Rattle.gv_lower.specs.TreeGates.{Base, dep_plans, req_plans}
+use Rattle.gv_lower.specs.TreeGates.{Base, dep_plans, req_plans, signed}
 use Rattle.gv_lower.specs.AtomGates.{atom_plan}
 
--- the literal of the first of the flags that is this one, where they are the inputs from place n on; else another
-abbrev pub input_or : ℕ → List (List ℕ) → List ℕ → (other : ℕ) → ℕ
-input_or n [] flag other = other
-input_or n (f ∷ fs) flag other = if bytes_eq f flag then 2 * n else input_or (n + 1) fs flag other
+-- the literal of the first of the flags that is this one, where they are the inputs from place n on: its input, and the opposite
+-- where the flag is preferred on; else another
+abbrev pub input_or : ℕ → List (List ℕ) → List ℕ → (preferred : Bool) → (other : ℕ) → ℕ
+input_or n [] flag preferred other = other
+input_or n (f ∷ fs) flag preferred other = if bytes_eq f flag then signed preferred (2 * n) else input_or (n + 1) fs flag preferred other
 
 -- behind k inputs
 abbrev pub true_at : ℕ → ℕ
@@ -30,7 +33,7 @@ first_gates = record { op = And; operands = [] } ∷ record { op = Or; operands 
 -- a flag that is no input is on where it is forced
 abbrev pub base_of : Parent → (flags : List (List ℕ)) → Base
 base_of c flags = record {
-  flag = λ flag. input_or 0 flags flag (if is_forced (parent_state c flag) then true_at (length flags) else false_at (length flags));
+  flag = λ flag. input_or 0 flags flag (preferred_on c.pkg flag) (if is_forced (parent_state c flag) then true_at (length flags) else false_at (length flags));
   on = true_at (length flags);
   off = false_at (length flags);
 }

@@ -1,7 +1,6 @@
 -- What REQUIRED_USE and a class of a package ask about, in whichever of some profiles it is asked.
-use Rattle.std.specs.Prelude.{ℕ, Bool, false, List, [], map, filter, refl, Option, None, Some, slice_get}
+use Rattle.std.specs.Prelude.{ℕ, List, [], map, filter, refl, Option, None, Some, slice_get}
 use Rattle.std.specs.Coded.{Coded, code_by, coded×, coded_list}
-use Rattle.std.specs.Option.{option_map_or}
 use Rattle.gv_atom.specs.declared.atom.Atom.{Atom}
 use Rattle.gv_atom.specs.declared.items.UseItem.{UseItem}
 use Rattle.gv_expr.specs.Dep.{Dep}
@@ -13,9 +12,9 @@ use Rattle.gv_facts.specs.contracts.profile.Profile as profile
 use Rattle.gv_facts.specs.declared.pkg.Pkg.{Pkg}
 use Rattle.gv_facts.specs.declared.profile.Profile.{Profile}
 use Rattle.gv_facts.specs.Places.{is_pkg_of, places_of}
-use Rattle.gv_facts.specs.Visible.{matches_pkg}
 use Rattle.gv_usestate.specs.Kinds.{flag_kind}
 use Rattle.gv_usestate.specs.declared.ruled.FlagKind.{FlagKind}
+use Rattle.gv_visible.specs.NamedPkgs.{matches_at}
 
 -- What contracts see of it: the profiles, the package, and its REQUIRED_USE.
 pub record RequiredFlags : Type 0 where
@@ -61,10 +60,6 @@ pub record PlaceSite : Type 0 where
 
 abbrev pub place_site : List Profile → List Pkg → List UseItem → ℕ → PlaceSite
 place_site profiles pkgs items place = record { place = place; flags = known_at profiles items (slice_get pkgs place) }
-
--- whether the atom matches the package at a place
-abbrev pub matches_at : Atom → List Pkg → ℕ → Bool
-matches_at atom pkgs place = option_map_or (matches_pkg atom) (slice_get pkgs place) false
 
 -- all of an atom
 abbrev pub site_of : List Profile → List Pkg → Atom → List PlaceSite

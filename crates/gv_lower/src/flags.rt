@@ -6,11 +6,10 @@ ghost use Rattle.gv_expr.specs.Mentions.{dep_mentions, req_mentions};
 ghost use Rattle.gv_expr.specs.Required.{reqs};
 ghost use Rattle.gv_entry.specs.Allowed.{is_free};
 ghost use Rattle.gv_facts.specs.States.{state};
-ghost use Rattle.gv_lower.specs.Mentions.{texts_of};
+ghost use Rattle.gv_expr.specs.Mentions.{texts_of};
 
-use crate::mentions::Mentions;
 use gv_base::{NoMemory, Text, Texts, in_order_law};
-use gv_expr::{DepExpr, UseExpr};
+use gv_expr::{DepExpr, Mentions, UseExpr};
 use gv_facts::{FlagState, Level, Pkg, Profile};
 use gv_usestate::state_of;
 use std::alloc::Global;

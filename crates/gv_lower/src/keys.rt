@@ -3,7 +3,7 @@
 //! A key costs O(1) for each mention of a flag that is plain in all profiles, for any other its state, for each package that
 //! an atom matches what the candidates' `is_visible` costs, and where that is visible the same for the flags that the atom's
 //! items name. It takes no memory but that of the bytes that are added.
-ghost use Rattle.std.specs.Prelude.{◌≡◌, ◌++◌, ◌∷◌, List, flat_map, OnOk};
+ghost use Rattle.std.specs.Prelude.{◌≡◌, ◌++◌, ◌∷◌, List, flat_map, OnErr, OnOk};
 ghost use Rattle.std.specs.List.{AllByRecursion};
 ghost use Rattle.gv_entry.specs.Allowed.{Parent};
 ghost use Rattle.gv_expr.specs.Dep.{Dep};
@@ -11,7 +11,7 @@ ghost use Rattle.gv_expr.specs.Required.{Req};
 ghost use Rattle.gv_facts.specs.States.{state};
 ghost use Rattle.gv_lower.specs.Around.{alone, parent_of};
 ghost use Rattle.gv_lower.specs.Keys.{HaveSameAllowed, HaveSameFailing, class_key, other_key, own_key, query_key, required_key};
-ghost use Rattle.gv_lower.specs.KeysAround.{AreKnown, IsKnownAt, other_keys, own_keys, place_key, site_key};
+ghost use Rattle.gv_lower.specs.KeysAround.{AreKnown, Begins, IsKnownAt, other_keys, own_keys, place_key, site_key};
 ghost use Rattle.gv_usestate.specs.Kinds.{IsOneOf};
 ghost use Rattle.gv_visible.specs.Candidates.{level_of, pkgs_of, profile_of, test_of};
 ghost use Rattle.gv_visible.specs.StoredTest.{AnswersVisible};
@@ -23,14 +23,15 @@ use gv_facts::{FlagState, Level, Pkg};
 use gv_usestate::{PkgInProfile, ProfileStates, kind_law};
 use gv_visible::Candidates;
 
-/// Two parents of the same EAPI have one and the same query about REQUIRED_USE where the keys of REQUIRED_USE are equal, and
-/// about a class where those of the whole query are.
+/// Two parents of the same EAPI that prefer the same flags on have one and the same query about REQUIRED_USE where the keys of
+/// REQUIRED_USE are equal, and about a class where those of the whole query are.
 pub fn key_law()
-    ensures allowed { (c d : Parent) (required : List Req) → c.pkg.eapi ≡ d.pkg.eapi → required_key c required ≡ required_key d required → HaveSameAllowed c d required }
-    ensures failing { (c d : Parent) (required : List Req) (class : List Dep) → c.pkg.eapi ≡ d.pkg.eapi → query_key c required class ≡ query_key d required class → HaveSameFailing c d required class }
+    ensures allowed { (c d : Parent) (required : List Req) → c.pkg.eapi ≡ d.pkg.eapi → c.pkg.iuse_plus ≡ d.pkg.iuse_plus → required_key c required ≡ required_key d required → HaveSameAllowed c d required }
+    ensures failing { (c d : Parent) (required : List Req) (class : List Dep) → c.pkg.eapi ≡ d.pkg.eapi → c.pkg.iuse_plus ≡ d.pkg.iuse_plus → query_key c required class ≡ query_key d required class → HaveSameFailing c d required class }
 {}
 
-/// Adds the key of the package's REQUIRED_USE in the profile, which is one of those of the flags, at this level.
+/// Adds the key of the package's REQUIRED_USE in the profile, which is one of those of the flags, at this level. After an error the key is
+/// as before.
 pub fn add_required_key(
     flags: &RequiredFlags<'_>,
     states: &ProfileStates<'_>,
@@ -38,14 +39,15 @@ pub fn add_required_key(
     key: &mut Vec<u8>,
 ) -> Result<(), NoMemory>
     requires { IsOneOf flags.now.profiles states.now }
-    ensures { OnOk result (key.new.items ≡ key.old.items ++ required_key (alone flags.now.of states.now level) flags.now.required) }
+    ensures ok { OnOk result (key.new.items ≡ key.old.items ++ required_key (alone flags.now.of states.now level) flags.now.required) }
+    ensures err { OnErr result (key.new.items ≡ key.old.items) }
 {
     kind_law();
     add_own(flags.flags(), flags.pkg(), states, level, key)
 }
 
 /// Adds the key of a class of the package among the candidates, whose profile is one of those of the sites. Behind that of its
-/// REQUIRED_USE it makes that of the query.
+/// REQUIRED_USE it makes that of the query. After an error the key is as before.
 pub fn add_class_key<F: Fn(&Pkg) -> bool>(
     sites: &ClassSites<'_>,
     candidates: &Candidates<'_, F>,
@@ -56,11 +58,19 @@ pub fn add_class_key<F: Fn(&Pkg) -> bool>(
     requires pkgs { sites.now.pkgs ≡ pkgs_of candidates.now }
     requires profile { states.now ≡ profile_of candidates.now }
     requires one { IsOneOf sites.now.profiles states.now }
-    ensures { OnOk result (key.new.items ≡ key.old.items ++ class_key (parent_of candidates.now sites.now.of) sites.now.class) }
+    ensures ok { OnOk result (key.new.items ≡ key.old.items ++ class_key (parent_of candidates.now sites.now.of) sites.now.class) }
+    ensures err { OnErr result (key.new.items ≡ key.old.items) }
 {
     kind_law();
+    let before = key.len();
     add_own(sites.flags(), sites.pkg(), states, candidates.level(), key)?;
-    add_atoms(sites.atoms(), candidates, states, key)
+    match add_atoms(sites.atoms(), candidates, states, key) {
+        Ok(()) => Ok(()),
+        Err(fault) => {
+            key.truncate(before);
+            Err(fault)
+        }
+    }
 }
 
 fn own_key(state: FlagState) -> u8
@@ -93,7 +103,8 @@ fn add_own(
     key: &mut Vec<u8>,
 ) -> Result<(), NoMemory>
     requires { AreKnown states.now pkg.now flags.now }
-    ensures { OnOk result (key.new.items ≡ key.old.items ++ own_keys (state pkg.now states.now level) flags.now) }
+    ensures ok { OnOk result (key.new.items ≡ key.old.items ++ own_keys (state pkg.now states.now level) flags.now) }
+    ensures err { OnErr result (key.new.items ≡ key.old.items) }
 {
     key.reserve(flags.len())?;
     let mut parent = PkgInProfile::new(pkg, states.profile(), level);
@@ -113,7 +124,8 @@ fn add_states(
     key: &mut Vec<u8>,
 ) -> Result<(), NoMemory>
     requires { AreKnown states.now pkg.now flags.now }
-    ensures { OnOk result (key.new.items ≡ key.old.items ++ other_keys (state pkg.now states.now level) flags.now) }
+    ensures ok { OnOk result (key.new.items ≡ key.old.items ++ other_keys (state pkg.now states.now level) flags.now) }
+    ensures err { OnErr result (key.new.items ≡ key.old.items) }
 {
     key.reserve(flags.len())?;
     let mut candidate = PkgInProfile::new(pkg, states.profile(), level);
@@ -132,7 +144,8 @@ fn add_candidate(
     key: &mut Vec<u8>,
 ) -> Result<(), NoMemory>
     requires { AreKnown states.now pkg.now flags.now }
-    ensures { OnOk result (key.new.items ≡ key.old.items ++ 1 ∷ other_keys (state pkg.now states.now level) flags.now) }
+    ensures ok { OnOk result (key.new.items ≡ key.old.items ++ 1 ∷ other_keys (state pkg.now states.now level) flags.now) }
+    ensures err { OnErr result (Begins key.old.items key.new.items) }
 {
     key.push(1)?;
     add_states(flags, pkg, states, level, key)
@@ -148,7 +161,8 @@ fn add_shown<F: Fn(&Pkg) -> bool>(
     requires test { AnswersVisible (F.pre (test_of candidates.now)) (F.post (test_of candidates.now)) (profile_of candidates.now) (level_of candidates.now) }
     requires profile { states.now ≡ profile_of candidates.now }
     requires known { IsKnownAt states.now (pkgs_of candidates.now) site.now }
-    ensures { OnOk result (key.new.items ≡ key.old.items ++ place_key states.now (level_of candidates.now) (pkgs_of candidates.now) site.now) }
+    ensures ok { OnOk result (key.new.items ≡ key.old.items ++ place_key states.now (level_of candidates.now) (pkgs_of candidates.now) site.now) }
+    ensures err { OnErr result (Begins key.old.items key.new.items) }
 {
     let place = site.place();
     match candidates.pkgs().items().get(place as usize) {
@@ -169,7 +183,8 @@ fn add_atom<F: Fn(&Pkg) -> bool>(
     requires test { AnswersVisible (F.pre (test_of candidates.now)) (F.post (test_of candidates.now)) (profile_of candidates.now) (level_of candidates.now) }
     requires profile { states.now ≡ profile_of candidates.now }
     requires known { AllByRecursion (IsKnownAt states.now (pkgs_of candidates.now)) site.now }
-    ensures { OnOk result (key.new.items ≡ key.old.items ++ site_key states.now (level_of candidates.now) (pkgs_of candidates.now) site.now) }
+    ensures ok { OnOk result (key.new.items ≡ key.old.items ++ site_key states.now (level_of candidates.now) (pkgs_of candidates.now) site.now) }
+    ensures err { OnErr result (Begins key.old.items key.new.items) }
 {
     for place in site.places() {
         add_shown(place, candidates, states, key)?;
@@ -187,7 +202,8 @@ fn add_atoms<F: Fn(&Pkg) -> bool>(
     requires test { AnswersVisible (F.pre (test_of candidates.now)) (F.post (test_of candidates.now)) (profile_of candidates.now) (level_of candidates.now) }
     requires profile { states.now ≡ profile_of candidates.now }
     requires known { AllByRecursion (AllByRecursion (IsKnownAt states.now (pkgs_of candidates.now))) sites.now }
-    ensures { OnOk result (key.new.items ≡ key.old.items ++ flat_map (site_key states.now (level_of candidates.now) (pkgs_of candidates.now)) sites.now) }
+    ensures ok { OnOk result (key.new.items ≡ key.old.items ++ flat_map (site_key states.now (level_of candidates.now) (pkgs_of candidates.now)) sites.now) }
+    ensures err { OnErr result (Begins key.old.items key.new.items) }
 {
     for site in sites {
         add_atom(site, candidates, states, key)?;

@@ -1,6 +1,6 @@
 //! Flags of a package with what is known of their states whatever the profile. O(1) and the look-up of its kind for each.
 ghost use Rattle.std.specs.Prelude.{◌≡◌, map, IfOk};
-ghost use Rattle.gv_lower.specs.Mentions.{texts_of};
+ghost use Rattle.gv_expr.specs.Mentions.{texts_of};
 ghost use Rattle.gv_lower.specs.Sites.{known_items, known_of};
 
 use gv_atom::UseItem;

@@ -13,8 +13,9 @@ ghost use Rattle.gv_lower.specs.QueryGates.{allowed_gates, failing_gates, failin
 use gv_entry::{allowed_law, failing_law};
 
 /// An assignment of the parent's flags that is on at On, off at Off and off at flags that aren't effective is allowed
-/// exactly where the gates have the value true at what it gives the query's flags; it is failing for a class exactly where
-/// the gates of that query do, and each top item of the class holds under it exactly where its literal is true there.
+/// exactly where the gates have the value true at the bits that say which of the query's flags haven't their preferred value
+/// under it; it is failing for a class exactly where the gates of that query do, and each top item of the class holds under it
+/// exactly where its literal is true there.
 pub fn lowering_law()
     ensures allowed { (c : Parent) (required : List Req) (on : List ℕ → Bool) → IsFit c on → IsRightAllowed c required on }
     ensures failing { (c : Parent) (required : List Req) (class : List Dep) (on : List ℕ → Bool) → IsFit c on → IsRightFailing c required class on }

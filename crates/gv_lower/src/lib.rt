@@ -9,7 +9,7 @@
 //! - `required`, `class`, `atoms`, `asks`: expressions, atoms and USE items, drawn as gates. `parent` has the literals of the
 //!   parent's flags, `chains` the items of an atom by their flags, `groups` what a group makes of its members.
 //! - `sketch`: gates in the making.
-//! - `mentions`, `known`, `sites`: what the queries of a package ask about, and what is known of it in each profile, found once
+//! - `known`, `sites`: what the queries of a package ask about, and what is known of it in each profile, found once
 //!   for the package.
 //! - `keys`: from these, what tells whether two contexts of a package have one and the same query, without its gates.
 //! - `laws`: laws of the definitions.
@@ -30,7 +30,6 @@ mod known;
 mod laws;
 mod lower;
 mod lowering;
-mod mentions;
 mod parent;
 mod query;
 mod required;

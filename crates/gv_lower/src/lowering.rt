@@ -4,6 +4,7 @@
 ghost use Rattle.std.specs.Prelude.{◌≡◌, ◌<◌, ◌≤◌, [], ◌∷◌, length, IfOk};
 ghost use Rattle.gv_entry.specs.Holds.{empty_holds};
 ghost use Rattle.gv_entry.specs.Weight.{weight};
+ghost use Rattle.gv_facts.specs.Preferred.{preferred};
 ghost use Rattle.gv_logic.specs.Circuits.{IsCircuit};
 ghost use Rattle.gv_lower.specs.Around.{alone, parent_of};
 ghost use Rattle.gv_lower.specs.Lowering.{IsQuery, Lowered, LoweredAllowed, LoweredFailing};
@@ -14,7 +15,7 @@ ghost use Rattle.gv_visible.specs.Candidates.{level_of, profile_of, test_of};
 
 use crate::flags::{class_flags, required_flags};
 use crate::parent::{Inputs, ParentFlags};
-use crate::query::{LowerFault, Query, inputs_of};
+use crate::query::{LowerFault, Query, inputs_of, preferred_values};
 use crate::sketch::Sketch;
 use crate::weigh::{light_class, light_required};
 use crate::{class, required};
@@ -141,13 +142,15 @@ fn allowed_query(
     required: &UseExpr,
 ) -> Result<Query, NoMemory>
     requires { IsCircuit (allowed_gates (alone pkg.now profile.now level) required.now inputs) }
-    ensures { IfOk result (λ q. IsQuery (allowed_gates (alone pkg.now profile.now level) required.now inputs) inputs [] q) }
+    ensures { IfOk result (λ q. IsQuery (allowed_gates (alone pkg.now profile.now level) required.now inputs) inputs [] (preferred pkg.now inputs) q) }
 {
     let gates = draw_allowed(alloc, pkg, profile, level, &inputs, required)?;
+    let preferred = preferred_values(alloc, pkg, &inputs.flags)?;
     Ok(Query {
         gates,
         flags: inputs.flags,
         items: Lits::new(alloc),
+        preferred,
     })
 }
 
@@ -161,7 +164,7 @@ fn lower_few(
     required: &UseExpr,
 ) -> Result<Query, LowerFault>
     requires { length inputs ≤ 4096 }
-    ensures { Lowered inputs (weight (alone pkg.now profile.now level) required.now []) (IsQuery (allowed_gates (alone pkg.now profile.now level) required.now inputs) inputs []) result }
+    ensures { Lowered inputs (weight (alone pkg.now profile.now level) required.now []) (IsQuery (allowed_gates (alone pkg.now profile.now level) required.now inputs) inputs [] (preferred pkg.now inputs)) result }
 {
     match light_required(required) {
         Ok(()) => {
@@ -182,13 +185,15 @@ fn failing_query<F: Fn(&Pkg) -> bool>(
 ) -> Result<Query, NoMemory>
     requires told { AnswersVisible (F.pre (test_of candidates.now)) (F.post (test_of candidates.now)) (profile_of candidates.now) (level_of candidates.now) }
     requires formed { IsCircuit (failing_gates (parent_of candidates.now pkg.now) required.now class.now inputs) }
-    ensures { IfOk result (λ q. IsQuery (failing_gates (parent_of candidates.now pkg.now) required.now class.now inputs) inputs (failing_items (parent_of candidates.now pkg.now) required.now class.now inputs) q) }
+    ensures { IfOk result (λ q. IsQuery (failing_gates (parent_of candidates.now pkg.now) required.now class.now inputs) inputs (failing_items (parent_of candidates.now pkg.now) required.now class.now inputs) (preferred pkg.now inputs) q) }
 {
     let (gates, items) = draw_failing(alloc, pkg, &inputs, required, class, candidates)?;
+    let preferred = preferred_values(alloc, pkg, &inputs.flags)?;
     Ok(Query {
         gates,
         flags: inputs.flags,
         items,
+        preferred,
     })
 }
 
@@ -203,7 +208,7 @@ fn lower_few_of<F: Fn(&Pkg) -> bool>(
 ) -> Result<Query, LowerFault>
     requires told { AnswersVisible (F.pre (test_of candidates.now)) (F.post (test_of candidates.now)) (profile_of candidates.now) (level_of candidates.now) }
     requires few { length inputs ≤ 4096 }
-    ensures { Lowered inputs (weight (parent_of candidates.now pkg.now) required.now class.now) (IsQuery (failing_gates (parent_of candidates.now pkg.now) required.now class.now inputs) inputs (failing_items (parent_of candidates.now pkg.now) required.now class.now inputs)) result }
+    ensures { Lowered inputs (weight (parent_of candidates.now pkg.now) required.now class.now) (IsQuery (failing_gates (parent_of candidates.now pkg.now) required.now class.now inputs) inputs (failing_items (parent_of candidates.now pkg.now) required.now class.now inputs) (preferred pkg.now inputs)) result }
 {
     match light_class(required, class, pkg, candidates) {
         Ok(()) => {

@@ -1,12 +1,14 @@
-//! The literals of the parent's flags: a flag of the query is an input, any other is on where it is forced.
-ghost use Rattle.std.specs.Prelude.{◌≡◌, ℕ, ◌+◌, ◌*◌, ◌≤◌, length, unwrap_or};
+//! The literals of the parent's flags: of a flag of the query its input, which says that it hasn't its preferred value, or the
+//! opposite; any other is on where it is forced.
+ghost use Rattle.std.specs.Prelude.{◌≡◌, ℕ, ◌+◌, ◌*◌, ◌≤◌, Bool, length};
+ghost use Rattle.std.specs.Option.{option_map_or};
 ghost use Rattle.gv_lower.specs.Inputs.{AreInputs};
 ghost use Rattle.gv_lower.specs.Parent.{base_at};
 ghost use Rattle.gv_lower.specs.QueryGates.{input_or};
 ghost use Rattle.gv_lower.specs.TreeGates.{signed};
 
 use gv_base::{Text, Texts, byte_order_law};
-use gv_facts::{FlagState, Level, Pkg, Profile};
+use gv_facts::{FlagState, Level, Pkg, Profile, preferred_on};
 use gv_logic::Lit;
 use gv_usestate::state;
 use std::marker::Model;
@@ -36,9 +38,9 @@ impl Inputs {
         self.flags.items().len() as u32
     }
 
-    // The literal of the flag where it is an input: O(log n) comparisons.
+    // The input of the flag where it has one: O(log n) comparisons.
     fn lit(&self, flag: &Text) -> Option<Lit>
-        ensures { (other : ℕ) → input_or 0 self.now flag.now other ≡ unwrap_or result other }
+        ensures { (preferred : Bool) (other : ℕ) → input_or 0 self.now flag.now preferred other ≡ option_map_or (signed preferred) result other }
     {
         byte_order_law();
         match self.flags.items().binary_search(flag) {
@@ -65,7 +67,7 @@ impl ParentFlags<'_> {
         ensures { result ≡ (base_at self.now).flag flag.now }
     {
         match self.inputs.lit(flag) {
-            Some(lit) => lit,
+            Some(input) => signed(preferred_on(self.pkg, flag), input),
             None => match state(self.pkg, self.profile, self.level, flag) {
                 FlagState::On => self.on,
                 _ => self.off,
@@ -77,7 +79,12 @@ impl ParentFlags<'_> {
     pub(crate) fn condition(&self, flag: &Text, negated: bool) -> Lit
         ensures { result ≡ signed negated ((base_at self.now).flag flag.now) }
     {
-        let lit = self.flag(flag);
-        if negated { lit.opposite() } else { lit }
+        signed(negated, self.flag(flag))
     }
+}
+
+fn signed(negated: bool, lit: Lit) -> Lit
+    ensures { result ≡ signed negated lit }
+{
+    if negated { lit.opposite() } else { lit }
 }

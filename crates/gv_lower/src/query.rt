@@ -1,12 +1,15 @@
 //! Queries.
-ghost use Rattle.std.specs.Prelude.{◌≡◌, ◌<◌, ◌≤◌, length};
+ghost use Rattle.std.specs.Prelude.{◌≡◌, ◌<◌, ◌≤◌, length, IfOk};
 ghost use Rattle.gv_base.specs.Order.{IsAscending};
+ghost use Rattle.gv_facts.specs.Preferred.{preferred};
 ghost use Rattle.gv_lower.specs.Lowering.{FewFlags};
 ghost use Rattle.gv_lower.specs.Weigh.{capped};
 
 use crate::parent::Inputs;
 use gv_base::{NoMemory, Texts};
-use gv_logic::{Gates, Lits};
+use gv_facts::{Pkg, preferred_on};
+use gv_logic::{Bits, Gates, Lits};
+use std::alloc::Global;
 
 /// A query has at most so many flags.
 const MOST_FLAGS: usize = 4096;
@@ -14,12 +17,28 @@ const MOST_FLAGS: usize = 4096;
 /// A query as gates.
 #[derive(Drop)]
 pub struct Query {
-    /// The inputs are the flags.
+    /// The inputs are the flags. One that is on says that the flag hasn't its preferred value.
     pub gates: Gates,
     /// The free flags of the package that REQUIRED_USE or the class mentions, in byte order, each once.
     pub flags: Texts,
     /// The literal of each top item of the class, in order. None where only REQUIRED_USE is asked about.
     pub items: Lits,
+    /// Of each flag, in order, whether the package prefers it on.
+    pub preferred: Bits,
+}
+
+impl Query {
+    /// The same query once more. O(its gates and bytes).
+    pub fn copy(&self, alloc: Global) -> Result<Query, NoMemory>
+        ensures { IfOk result (λ query. query ≡ self.now) }
+    {
+        Ok(Query {
+            gates: self.gates.copy(alloc)?,
+            flags: self.flags.copy(alloc)?,
+            items: self.items.copy(alloc)?,
+            preferred: self.preferred.copy(alloc)?,
+        })
+    }
 }
 
 /// Why a query wasn't lowered.
@@ -42,6 +61,17 @@ impl From<NoMemory> for LowerFault {
     fn from(_refused: NoMemory) -> LowerFault {
         LowerFault::NoMemory
     }
+}
+
+// Of each flag whether the package prefers it on.
+pub(crate) fn preferred_values(alloc: Global, pkg: &Pkg, flags: &Texts) -> Result<Bits, NoMemory>
+    ensures { IfOk result (λ bits. bits ≡ preferred pkg.now flags.now) }
+{
+    let mut bits = Bits::new(alloc);
+    for flag in flags.items() {
+        bits.add(preferred_on(pkg, flag))?;
+    }
+    Ok(bits)
 }
 
 // The flags as inputs, where they aren't too many. A list has room for fewer than 2^32 of them.

@@ -8,17 +8,15 @@ ghost use Rattle.gv_expr.specs.Dep.{deps};
 ghost use Rattle.gv_expr.specs.DepView.{dep_of};
 ghost use Rattle.gv_expr.specs.Mentions.{dep_mentions, req_mentions, wanted_atoms};
 ghost use Rattle.gv_expr.specs.Required.{reqs};
-ghost use Rattle.gv_visible.specs.PkgIndex.{IsNamedAt};
-ghost use Rattle.gv_lower.specs.Sites.{known_of, matches_at, place_site, site_of};
+ghost use Rattle.gv_lower.specs.Sites.{known_of, place_site, site_of};
 
 use crate::known::{KnownFlag, known_flags, known_items};
-use crate::mentions::Mentions;
 use gv_atom::{Atom, Block, UseItem};
 use gv_base::NoMemory;
-use gv_expr::{DepExpr, DepTree, UseExpr};
-use gv_facts::{Pkg, Pkgs, matches_named};
+use gv_expr::{DepExpr, DepTree, Mentions, UseExpr};
+use gv_facts::{Pkg, Pkgs};
 use gv_usestate::RuledFlags;
-use gv_visible::PkgIndex;
+use gv_visible::{matches_at, named};
 use std::alloc::Global;
 use std::marker::Model;
 
@@ -161,25 +159,25 @@ impl<'a> Model for ClassSites<'a> {
 }
 
 impl<'a> ClassSites<'a> {
-    /// Those of this class of the package among the packages of the index.
+    /// Those of this class of the package among these packages.
     pub fn new(
         alloc: Global,
         ruled: &'a RuledFlags<'a>,
         pkg: &'a Pkg,
-        index: &PkgIndex<'a>,
+        pkgs: &'a Pkgs,
         class: &'a DepExpr,
     ) -> Result<ClassSites<'a>, NoMemory>
-        ensures { IfOk result (λ sites. sites ≡ record { profiles = ruled.now; of = pkg.now; pkgs = index.now; class = class.now }) }
+        ensures { IfOk result (λ sites. sites ≡ record { profiles = ruled.now; of = pkg.now; pkgs = pkgs.now; class = class.now }) }
     {
         let mut mentions = Mentions::new(alloc);
         mentions.add_class(class)?;
         let flags = known_flags(alloc, ruled, pkg, mentions.items())?;
         let mut atoms = Vec::new(alloc);
-        add_sites(alloc, class, ruled, index, &mut atoms)?;
+        add_sites(alloc, class, ruled, pkgs, &mut atoms)?;
         Ok(ClassSites {
             ruled,
             pkg,
-            pkgs: index.pkgs(),
+            pkgs,
             class,
             flags,
             atoms,
@@ -202,17 +200,6 @@ impl<'a> ClassSites<'a> {
         ensures { result.now ≡ map (site_of self.now.profiles self.now.pkgs) (wanted_atoms (deps self.now.class)) }
     {
         &self.atoms
-    }
-}
-
-// Whether the atom matches the package at this place, which has its category and name.
-fn matches_at(atom: &Atom, pkgs: &[Pkg], place: u32) -> bool
-    requires { IsNamedAt atom.now.category atom.now.name pkgs.now place }
-    ensures { result ≡ matches_at atom.now pkgs.now place }
-{
-    match pkgs.get(place as usize) {
-        Some(pkg) => matches_named(atom, pkg),
-        None => false,
     }
 }
 
@@ -242,16 +229,16 @@ fn site_of<'a>(
     alloc: Global,
     ruled: &RuledFlags<'_>,
     atom: &'a Atom,
-    index: &PkgIndex<'_>,
+    pkgs: &Pkgs,
 ) -> Result<AtomSite<'a>, NoMemory>
-    ensures { IfOk result (λ site. site ≡ site_of ruled.now index.now atom.now) }
+    ensures { IfOk result (λ site. site ≡ site_of ruled.now pkgs.now atom.now) }
 {
-    let pkgs = index.pkgs().items();
+    let listed = pkgs.items();
     let items = atom.items.items();
     let mut places = Vec::new(alloc);
-    for place in index.named(atom) {
-        if matches_at(atom, pkgs, *place) {
-            places.push(place_site(alloc, ruled, pkgs, items, *place)?)?;
+    for place in named(pkgs, atom) {
+        if matches_at(listed, *place, atom) {
+            places.push(place_site(alloc, ruled, listed, items, *place)?)?;
         }
     }
     Ok(AtomSite { places })
@@ -263,13 +250,13 @@ fn add_sites<'a>(
     alloc: Global,
     items: &'a DepExpr,
     ruled: &RuledFlags<'_>,
-    index: &PkgIndex<'_>,
+    pkgs: &Pkgs,
     atoms: &mut Vec<AtomSite<'a>>,
 ) -> Result<(), NoMemory>
-    ensures { OnOk result (atoms.new.items ≡ atoms.old.items ++ map (site_of ruled.now index.now) (wanted_atoms (deps items.now))) }
+    ensures { OnOk result (atoms.new.items ≡ atoms.old.items ++ map (site_of ruled.now pkgs.now) (wanted_atoms (deps items.now))) }
 {
     for tree in &items.items {
-        add_sites_of(alloc, tree, ruled, index, atoms)?;
+        add_sites_of(alloc, tree, ruled, pkgs, atoms)?;
     }
     Ok(())
 }
@@ -279,22 +266,22 @@ fn add_sites_of<'a>(
     alloc: Global,
     tree: &'a DepTree,
     ruled: &RuledFlags<'_>,
-    index: &PkgIndex<'_>,
+    pkgs: &Pkgs,
     atoms: &mut Vec<AtomSite<'a>>,
 ) -> Result<(), NoMemory>
-    ensures { OnOk result (atoms.new.items ≡ atoms.old.items ++ map (site_of ruled.now index.now) (wanted_atoms (deps (dep_of tree.now ∷ [])))) }
+    ensures { OnOk result (atoms.new.items ≡ atoms.old.items ++ map (site_of ruled.now pkgs.now) (wanted_atoms (deps (dep_of tree.now ∷ [])))) }
 {
     match tree {
         DepTree::Leaf { atom } => match atom.block {
             Block::No => {
-                atoms.push(site_of(alloc, ruled, atom, index)?)?;
+                atoms.push(site_of(alloc, ruled, atom, pkgs)?)?;
                 Ok(())
             }
             Block::Weak | Block::Strong => Ok(()),
         },
         DepTree::All { items } | DepTree::Any { items } => {
-            add_sites(alloc, items, ruled, index, atoms)
+            add_sites(alloc, items, ruled, pkgs, atoms)
         }
-        DepTree::If { items, .. } => add_sites(alloc, items, ruled, index, atoms),
+        DepTree::If { items, .. } => add_sites(alloc, items, ruled, pkgs, atoms),
     }
 }

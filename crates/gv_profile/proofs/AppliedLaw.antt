@@ -5,7 +5,7 @@ use Rattle.std.specs.Option.{option_map_or}
 use Rattle.std.proofs.lemmas.Grind.{flat_map-append}
 use Rattle.gv_profile.specs.declared.desc.DescLine.{DescLine}
 use Rattle.gv_profile.specs.declared.files.DirFiles.{DirFiles}
-use Rattle.gv_profile.specs.declared.files.NamedFile.{NamedFile}
+use Rattle.gv_reading.specs.declared.files.NamedFile.{NamedFile}
 use Rattle.gv_profile.specs.declared.folding.Folded.{Folded}
 use Rattle.gv_profile.specs.Folding.{profile_of, start, with_dir, with_files}
 use Rattle.gv_profile.specs.Laws.{IsApplied, masks_at, rules_at}

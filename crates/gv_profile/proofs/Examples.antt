@@ -1,19 +1,30 @@
 -- Lists of profiles, stacks, rules, masks and notes of a few directories, by their computed values.
-use Rattle.std.proofs.Common.{◌≡◌, ℕ, ◌+◌, List, [], ◌∷◌, ◌++◌, true, false, Some, None, refl}
+use Rattle.std.proofs.Common.{◌≡◌, ℕ, ◌+◌, List, [], ◌∷◌, ◌++◌, Bool, true, false, Some, None, refl, ap, ◌∙◌}
 use Rattle.std.specs.Prelude.{Option, map, codes, if◌then◌else◌, nat_eq}
 use Rattle.std.specs.Option.{is_some}
 use Rattle.std.specs.Str.{bytes_eq}
+use Rattle.std.specs.FinMap.{get}
+use Rattle.gv_base.specs.Order.{has_text}
+use Rattle.gv_defaults.specs.declared.vars.Setting.{Setting}
+use Rattle.gv_defaults.specs.declared.vars.Setting.TheVariants.{Words, Plain}
+use Rattle.gv_defaults.specs.Settings.{VarMap, words_of}
 use Rattle.gv_facts.specs.declared.kinds.Status.TheVariants.{Stable, Dev, Exp}
+use Rattle.gv_facts.specs.declared.rules.Effect.{Effect}
+use Rattle.gv_facts.specs.declared.rules.Effect.TheVariants.{Force, Mask}
+use Rattle.gv_facts.specs.declared.rules.Rule.{Rule}
+use Rattle.gv_facts.specs.declared.value_lists.ValueList.{ValueList}
+use Rattle.gv_facts.specs.Visible.{testing}
 use Rattle.gv_profile.specs.declared.desc.DescLine.{DescLine}
 use Rattle.gv_profile.specs.declared.faults.ProfileFault.TheVariants.{Cycle, MissingParent, MissingProfile, BadEapi, TooMany}
 use Rattle.gv_profile.specs.declared.files.DirFiles.{DirFiles}
-use Rattle.gv_profile.specs.declared.files.NamedFile.{NamedFile}
+use Rattle.gv_reading.specs.declared.files.NamedFile.{NamedFile}
 use Rattle.gv_profile.specs.declared.notes.PlaceNote.{PlaceNote}
 use Rattle.gv_profile.specs.Desc.{desc_read}
 use Rattle.gv_profile.specs.BadLines.{dir_notes}
 use Rattle.gv_profile.specs.Eapi.{eapi_in}
 use Rattle.gv_profile.specs.MaskLines.{file_atom, masks_of, mask_lines}
-use Rattle.gv_profile.specs.Names.{profiles, desc_path, eapi_path, parent_path, detail_of}
+use Rattle.gv_profile.specs.Folding.{profile_with, value_list}
+use Rattle.gv_profile.specs.Names.{accept_keywords, desc_path, detail_of, eapi_path, iuse_implicit, parent_path, profiles, use_expand, use_expand_implicit, use_expand_unprefixed, use_expand_values}
 use Rattle.gv_profile.specs.FlagRules.{dir_rules}
 use Rattle.gv_profile.specs.Walking.{Look, walk_below, line_walk, stack_of, stack_fault}
 
@@ -144,6 +155,66 @@ rules : (map (λ r. r.flag) (dir_rules (ruled (codes "5"))) ≡ codes "b" ∷ co
     × (map (λ r. r.flag) (dir_rules (ruled (codes "4"))) ≡ codes "b" ∷ codes "c" ∷ codes "f" ∷ codes "g" ∷ [])
 unfolding file_atom
 rules = (refl, refl, refl, refl)
+
+-- each of the eight files: the flag, what is done to it, whether under stable restrictions alone, and whether for the packages of an atom alone
+abbrev eight : DirFiles
+eight = record empty_dir {
+  eapi = Some (codes "8");
+  use_mask = file (codes "um");
+  use_force = file (codes "uf");
+  use_stable_mask = file (codes "usm");
+  use_stable_force = file (codes "usf");
+  package_use_mask = file (codes "x/y pm");
+  package_use_force = file (codes "x/y pf");
+  package_use_stable_mask = file (codes "x/y psm");
+  package_use_stable_force = file (codes "x/y psf");
+}
+
+abbrev shape : Rule → List ℕ × (Effect × (Bool × Bool))
+shape r = (r.flag, (r.effect, (r.stable, is_some r.atom)))
+
+each_file : map shape (dir_rules eight) ≡
+    (codes "um", (Mask, (false, false))) ∷ (codes "uf", (Force, (false, false))) ∷ (codes "usm", (Mask, (true, false))) ∷ (codes "usf", (Force, (true, false)))
+    ∷ (codes "pm", (Mask, (false, true))) ∷ (codes "pf", (Force, (false, true))) ∷ (codes "psm", (Mask, (true, true))) ∷ (codes "psf", (Force, (true, true))) ∷ []
+unfolding file_atom
+each_file = refl
+
+-- each of the variables that a profile uses
+variables : (vars : VarMap) → get vars (codes "ACCEPT_KEYWORDS") ≡ Some (Words (codes "~amd64" ∷ [])) → get vars (codes "IUSE_IMPLICIT") ≡ Some (Words (codes "i" ∷ []))
+    → get vars (codes "USE_EXPAND") ≡ Some (Words (codes "E" ∷ [])) → get vars (codes "USE_EXPAND_IMPLICIT") ≡ Some (Words (codes "M" ∷ []))
+    → get vars (codes "USE_EXPAND_UNPREFIXED") ≡ Some (Words (codes "U" ∷ [])) → get vars (codes "USE_EXPAND_VALUES_M") ≡ Some (Plain (codes "v w"))
+    → profile_with (line (codes "top")) (record { vars = vars; lines = []; rules = [] }) ≡ record {
+      line = 1;
+      arch = codes "amd64";
+      path = codes "top";
+      status = Stable;
+      testing = true;
+      iuse_implicit = codes "i" ∷ [];
+      expand = codes "E" ∷ [];
+      expand_implicit = codes "M" ∷ [];
+      unprefixed = codes "U" ∷ [];
+      values = record { name = codes "M"; words = codes "v" ∷ codes "w" ∷ [] } ∷ [];
+      masks = [];
+      rules = [];
+    }
+unfolding accept_keywords iuse_implicit use_expand use_expand_implicit use_expand_unprefixed use_expand_values
+variables vars accepts implicit expand expand_implicit unprefixed values = λ i. record {
+  line = 1;
+  arch = codes "amd64";
+  path = codes "top";
+  status = Stable;
+  testing = has_text (words_of (accepts i)) (testing (codes "amd64"));
+  iuse_implicit = words_of (implicit i);
+  expand = words_of (expand i);
+  expand_implicit = words_of (expand_implicit i);
+  unprefixed = words_of (unprefixed i);
+  values = values_are i;
+  masks = [];
+  rules = [];
+}
+  where
+    values_are : map (value_list vars) (words_of (get vars use_expand_implicit)) ≡ record { name = codes "M"; words = codes "v" ∷ codes "w" ∷ [] } ∷ []
+    values_are = ap (λ (o : Option Setting). map (value_list vars) (words_of o)) expand_implicit ∙ ap (λ (o : Option Setting). let v : ValueList = record { name = codes "M"; words = words_of o } in v ∷ []) values
 
 abbrev noted : List PlaceNote
 noted = dir_notes (codes "d") (record (ruled (codes "4")) { parent = Some (lines (codes "../a" ∷ codes "r:b" ∷ [])) })

@@ -1,5 +1,6 @@
 mod Examples
 pub mod AppliedLaw
+pub mod BelowLaw
 pub mod DescKeys
 pub mod FlagLaw
 pub mod MaskLaw

@@ -1,18 +1,11 @@
 -- Masks, line by line from the last one.
 use Rattle.std.proofs.Common.{◌≡◌, ℕ, List, [], ◌∷◌, ◌++◌, not, ◌||◌, arith, refl, ap, filter}
 use Rattle.std.specs.Prelude.{reverse, fold}
-use Rattle.std.specs.List.{list_any}
-use Rattle.std.specs.BTreeMap.{is_at}
 use Rattle.std.specs.Str.{bytes_eq}
-use Rattle.std.proofs.lemmas.Map.Text.{is_eq-slice_cmp}
-use Rattle.gv_base.specs.Order.{byte_cmp, has_text}
+use Rattle.gv_base.specs.Order.{has_text}
 use Rattle.gv_facts.specs.declared.masks.Mask.{Mask}
 use Rattle.gv_profile.specs.declared.mask_lines.MaskLine.{MaskLine}
 use Rattle.gv_profile.specs.MaskLines.{mask_after, masks_of}
-
-pub has_key : (keys : List (List ℕ)) (text : List ℕ) → list_any (is_at (byte_cmp text)) keys ≡ has_text keys text
-has_key [] text = refl
-has_key (key ∷ keys) text = rw (is_eq-slice_cmp text key, has_key keys text) refl
 
 fold_last : (start : List Mask) (ls : List MaskLine) (line : MaskLine) → fold mask_after start (ls ++ line ∷ []) ≡ mask_after (fold mask_after start ls) line
 fold_last start [] line = refl

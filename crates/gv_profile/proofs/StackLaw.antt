@@ -15,27 +15,27 @@ use Rattle.gv_profile.specs.ParentFiles.{parents_of}
 use Rattle.gv_profile.specs.Stacks.{AreStacks, IsLineStack, none, next}
 use Rattle.gv_profile.specs.Walking.{Look, Met, at_parent, at_path, eapi_fault, fault, first_fault, found, from_dir, from_files, leave, line_dir, line_walk, most_visits, stack_fault, stack_of, there, visit, walk, walk_below}
 
-stack-append : (ms ns : List Met) → stack_of (ms ++ ns) ≡ stack_of ms ++ stack_of ns
+pub stack-append : (ms ns : List Met) → stack_of (ms ++ ns) ≡ stack_of ms ++ stack_of ns
 stack-append [] ns = refl
 stack-append (visit dir ∷ ms) ns = stack-append ms ns
 stack-append (fault what ∷ ms) ns = stack-append ms ns
 stack-append (leave dir ∷ ms) ns = ap (λ ds. dir ∷ ds) (stack-append ms ns)
 
 -- ---- walks without a fault, in parts
-abbrev IsGood : ℕ → List Met → Type 0
+abbrev pub IsGood : ℕ → List Met → Type 0
 IsGood visits met = first_fault visits met ≡ None
 
-no_fault : {X : Type 0} (what : ProfileFault) → Some what ≡ None → X
+pub no_fault : {X : Type 0} (what : ProfileFault) → Some what ≡ None → X
 no_fault what e = cc
 
 -- a front without a fault, and what follows after the visits of the front
-record Parted (visits : ℕ) (ms ns : List Met) : Type 0 where
-  after : ℕ
-  risen : visits ≤ after
-  front : IsGood visits ms
-  back : IsGood after ns
+pub record Parted (visits : ℕ) (ms ns : List Met) : Type 0 where
+  pub after : ℕ
+  pub risen : visits ≤ after
+  pub front : IsGood visits ms
+  pub back : IsGood after ns
 
-parted : (visits : ℕ) (ms ns : List Met) → IsGood visits (ms ++ ns) → Parted visits ms ns
+pub parted : (visits : ℕ) (ms ns : List Met) → IsGood visits (ms ++ ns) → Parted visits ms ns
 parted visits [] ns good = record { after = visits; risen = omega arith; front = refl; back = good }
 parted visits (visit dir ∷ ms) ns good = by (nat_lt visits most_visits) refl (parted (visits + 1) ms ns)
   where
@@ -123,7 +123,7 @@ all_parents depth look family dir (p ∷ ps) visits walks many good = joined (al
         first_is = subst (λ path. AreStacks look (record { path = path; line = p.line } ∷ ps) (one.has.above ++ one.path ∷ rest.stacks)) (sym one.named)
             (next one.path p.line one.files one.has.above rest.stacks ps one.known one.has.parents rest.are)
 
-not_below : (m n : ℕ) → n ≤ m → nat_lt m n ≡ false
+pub not_below : (m n : ℕ) → n ≤ m → nat_lt m n ≡ false
 not_below m n h = grind (arith, nat_tests)
 
 walks_good : (depth : ℕ) (look : Look) (above : List (List ℕ)) (dir : List ℕ) (files : DirFiles) (visits : ℕ) → most_visits ≤ depth + length above → length above ≤ visits →

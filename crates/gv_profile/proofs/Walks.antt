@@ -2,22 +2,21 @@
 use Rattle.std.proofs.Common.{◌≡◌, ℕ, ◌+◌, ◌-◌, ◌<◌, ◌≤◌, zero, suc, List, [], ◌∷◌, ◌++◌, true, false, Some, None, length, drop, refl, sym, ap, ◌∙◌, subst, append_assoc, length-append, arith, nat_lt}
 use Rattle.std.proofs.lemmas.Bool.{lt-ltb}
 use Rattle.std.proofs.lemmas.Bool.Decides.{nat_tests}
-use Rattle.std.specs.Prelude.{slice_get}
+use Rattle.std.specs.Prelude.{slice_get, IfOk, Result, Ok, Err}
 use Rattle.std.specs.List.{flat_map}
 use Rattle.std.proofs.lemmas.List.{append-nil}
 use Rattle.gv_profile.specs.declared.files.DirFiles.{DirFiles}
 use Rattle.gv_profile.specs.declared.parent_files.ParentLine.{ParentLine}
 use Rattle.gv_profile.specs.declared.frames.Frame.{Frame}
 use Rattle.gv_profile.specs.declared.frames.Walk.{Walk}
-use Rattle.gv_profile.specs.declared.folding.Folded.{Folded}
+use Rattle.gv_profile.specs.declared.faults.ProfileFault.{ProfileFault}
 use Rattle.gv_profile.specs.declared.faults.ProfileFault.TheVariants.{TooMany, BadEapi}
 use Rattle.gv_profile.specs.Eapi.{has_bad_eapi}
 use Rattle.gv_profile.specs.Names.{eapi_path}
 use Rattle.gv_profile.specs.ParentFiles.{parents_of}
-use Rattle.gv_profile.specs.Walking.{Look, Met, visit, leave, eapi_fault, at_parent, walk, walk_below, most_visits, first_fault}
+use Rattle.gv_profile.specs.Walking.{Look, Met, visit, leave, eapi_fault, at_parent, walk, walk_below, most_visits, first_fault, stack_of}
 use Rattle.gv_profile.specs.Frames.{left_of, left_below, left, Leads}
 use Rattle.gv_profile.specs.FrameIndex.{family_of}
-use Rattle.gv_profile.specs.Folding.{with_dir}
 use Rattle.gv_profile.specs.Slices.{dropped, nothing_dropped}
 
 -- a directory that is not too deep
@@ -60,12 +59,12 @@ left_with look old w f is = rw is (left_pushed look [] old.frames f)
 -- a directory is entered
 pub came_to : (look : Look) (old w : Walk) (dir : List ℕ) (files : DirFiles) →
     has_bad_eapi files ≡ false → old.visits < most_visits → length old.frames ≤ old.visits →
-    w ≡ record { frames = w.frames; visits = old.visits + 1; folded = old.folded } →
+    w ≡ record { frames = w.frames; visits = old.visits + 1; done = old.done } →
     w.frames ≡ old.frames ++ record { dir = dir; parents = parents_of dir files; next = 0 } ∷ [] →
-    Leads look (walk_below look (family_of old.frames) dir files ++ left look old) old.visits old.folded w
+    Leads look (walk_below look (family_of old.frames) dir files ++ left look old) old.visits old.done w
 came_to look old w dir files good few within new is =
     let one : w.visits ≡ old.visits + 1 = ap (λ (v : Walk). v.visits) new in
-    let same : w.folded ≡ old.folded = ap (λ (v : Walk). v.folded) new in
+    let same : w.done ≡ old.done = ap (λ (v : Walk). v.done) new in
     let fam : family_of w.frames ≡ family_of old.frames ++ dir ∷ [] = ap family_of is ∙ family_pushed old.frames _ in
     let shallow : length (family_of old.frames) < most_visits = rw length_family (omega arith) in
     let meets : walk_below look (family_of old.frames) dir files ++ left look old ≡ visit dir ∷ left look w =
@@ -117,22 +116,29 @@ next_parent look old w f parent there is =
     (left look old))
 
 -- a walk that goes on with what it had to meet
-pub went_on : (look : Look) (met more : List Met) (visits : ℕ) (folded : Folded) (w : Walk) → met ≡ more → Leads look more visits folded w → Leads look met visits folded w
-went_on look met more visits folded w is leads = subst (λ ms. Leads look ms visits folded w) (sym is) leads
+pub went_on : (look : Look) (met more : List Met) (visits : ℕ) (done : List (List ℕ)) (w : Walk) → met ≡ more → Leads look more visits done w → Leads look met visits done w
+went_on look met more visits done w is leads = subst (λ ms. Leads look ms visits done w) (sym is) leads
 
 -- a directory is left
 pub left_dir : (look : Look) (old w : Walk) (f : Frame) →
     slice_get f.parents f.next ≡ None → length old.frames < old.visits →
-    w ≡ record { frames = old.frames; visits = old.visits; folded = with_dir look old.folded f.dir } →
-    Leads look (left_of look (family_of (old.frames ++ f ∷ [])) f ++ left look old) old.visits old.folded w
+    w ≡ record { frames = old.frames; visits = old.visits; done = old.done ++ f.dir ∷ [] } →
+    Leads look (left_of look (family_of (old.frames ++ f ∷ [])) f ++ left look old) old.visits old.done w
 left_dir look old w f done within is =
     let meets : left_of look (family_of (old.frames ++ f ∷ [])) f ++ left look old ≡ leave f.dir ∷ left look w = rw (is, nothing_dropped f.parents f.next done) refl in
+    let left_now : w.done ≡ old.done ++ f.dir ∷ [] = ap (λ (v : Walk). v.done) is in
     record {
       fault = rw (meets, is) refl;
-      state = rw (meets, is) refl;
+      state = ap (λ ms. old.done ++ stack_of ms) meets ∙ sym (append_assoc old.done (f.dir ∷ []) (stack_of (left look w))) ∙ ap (λ ds. ds ++ stack_of (left look w)) (sym left_now);
       room = rw is (omega arith);
       less = rw meets (omega arith);
     }
+
+pub left_ok : (look : Look) (old : Walk) (f : Frame) (result : Result Walk ProfileFault) → slice_get f.parents f.next ≡ None → length old.frames < old.visits →
+    IfOk result (λ w. w ≡ record { frames = old.frames; visits = old.visits; done = old.done ++ f.dir ∷ [] }) →
+    IfOk result (Leads look (left_of look (family_of (old.frames ++ f ∷ [])) f ++ left look old) old.visits old.done)
+left_ok look old f (Ok w) done within is = left_dir look old w f done within is
+left_ok look old f (Err fault) done within is = tt
 
 -- ---- the loop, where the last frame of `w` was taken off and left `old`
 pub taken_off : (look : Look) (w old : Walk) (f : Frame) → w.frames ≡ old.frames ++ f ∷ [] →

@@ -2,7 +2,7 @@
 use Rattle.std.specs.Prelude.{ℕ, List, [], ◌∷◌, ◌++◌, Option, Some, None}
 use Rattle.gv_defaults.specs.Assignments.{file_of}
 use Rattle.gv_profile.specs.declared.files.DirFiles.{DirFiles}
-use Rattle.gv_profile.specs.declared.files.NamedFile.{NamedFile}
+use Rattle.gv_reading.specs.declared.files.NamedFile.{NamedFile}
 use Rattle.gv_profile.specs.declared.notes.Bad.TheVariants.{Assignment}
 use Rattle.gv_profile.specs.declared.notes.LineFile.TheVariants.{ParentFile, MaskFile, FlagFile, PackageFile}
 use Rattle.gv_profile.specs.declared.notes.PlaceNote.{PlaceNote}

@@ -13,7 +13,7 @@ use Rattle.gv_facts.specs.declared.rules.Rule.{Rule}
 use Rattle.gv_facts.specs.States.{applies, has_effect, is_same}
 use Rattle.gv_profile.specs.declared.desc.DescLine.{DescLine}
 use Rattle.gv_profile.specs.declared.files.DirFiles.{DirFiles}
-use Rattle.gv_profile.specs.declared.files.NamedFile.{NamedFile}
+use Rattle.gv_reading.specs.declared.files.NamedFile.{NamedFile}
 use Rattle.gv_profile.specs.declared.flag_rules.RuleFile.{RuleFile}
 use Rattle.gv_profile.specs.declared.mask_lines.MaskLine.{MaskLine}
 use Rattle.gv_profile.specs.declared.mask_lines.MaskLine.TheVariants.{Adds, Takes}

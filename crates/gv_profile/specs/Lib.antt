@@ -4,6 +4,7 @@ pub mod Desc
 pub mod Dirs
 pub mod Eapi
 pub mod Faults
+pub mod FlagLines
 pub mod FlagRules
 pub mod Folding
 pub mod FrameIndex

@@ -7,7 +7,7 @@ use Rattle.gv_atom.specs.declared.items.UseItem.{UseItem}
 use Rattle.gv_atom.specs.Reading.{read_atom}
 use Rattle.gv_atom.specs.Items.{is_blocker}
 use Rattle.gv_facts.specs.declared.masks.Mask.{Mask}
-use Rattle.gv_profile.specs.declared.files.NamedFile.{NamedFile}
+use Rattle.gv_reading.specs.declared.files.NamedFile.{NamedFile}
 use Rattle.gv_profile.specs.declared.mask_lines.MaskLine.{MaskLine}
 use Rattle.gv_profile.specs.declared.mask_lines.MaskLine.TheVariants.{Adds, Takes}
 use Rattle.gv_profile.specs.Lines.{line_words, file_lines}

@@ -1,14 +1,10 @@
--- Paths: below a folder, and relative to one.
+-- Paths relative to a folder.
 use Rattle.std.specs.Prelude.{ℕ, nat_eq, Bool, not, ◌&&◌, if◌then◌else◌, List, [], ◌∷◌, ◌++◌, ◌-◌, Option, Some, None, fold, take, length, codes}
 use Rattle.std.specs.List.{list_all, ends_with}
 use Rattle.std.specs.Str.{bytes_eq}
 use Rattle.gv_base.specs.Paths.{has_plain_bytes}
 use Rattle.gv_base.specs.declared.pieces.Cut.TheVariants.{Parts}
 use Rattle.gv_base.specs.Pieces.{pieces}
-
--- a name in a folder
-abbrev pub within : List ℕ → List ℕ → List ℕ
-within dir name = dir ++ (codes "/" ++ name)
 
 abbrev pub is_relative_part : List ℕ → Bool
 is_relative_part part = not (nat_eq (length part) 0) && has_plain_bytes part

@@ -2,13 +2,14 @@
 ghost use Rattle.std.specs.Prelude.{◌≡◌, ◌++◌, IfOk, OnOk};
 ghost use Rattle.gv_defaults.specs.Assignments.{file_of};
 ghost use Rattle.gv_profile.specs.BadLines.{parent_notes, shape_note, defaults_notes, head_notes, flag_notes, package_notes, dir_notes, mask_notes};
+ghost use Rattle.gv_profile.specs.FlagLines.{bad_in, flag_line};
 ghost use Rattle.gv_profile.specs.Lines.{line_words};
 ghost use Rattle.gv_profile.specs.Names.{defaults_path};
-ghost use Rattle.gv_profile.specs.Notes.{bad_parent, bad_mask, bad_flag, bad_package, bad_line, line_notes, files_notes, notes_among};
+ghost use Rattle.gv_profile.specs.Notes.{bad_parent, bad_mask, bad_line, line_notes, files_notes, notes_among};
 
-use crate::flag_rules::{are_flag_words, is_flag_word};
+use crate::flag_lines::{FlagLine, flag_line};
 use crate::lines::{line_words, next_number};
-use crate::mask_lines::{file_atom, mask_of};
+use crate::mask_lines::mask_in;
 use crate::notes::{Bad, LineFile, add_note};
 use crate::parent_files::is_parent;
 use crate::walking::parent_path;
@@ -60,46 +61,20 @@ fn bad_mask(alloc: Global, words: &[Text]) -> Result<Option<Bad>, NoMemory>
 {
     match words {
         [] => Ok(None),
-        [word] => match mask_of(alloc, word.bytes())? {
+        _ => match mask_in(alloc, words)? {
             Some(_) => Ok(None),
             None => Ok(Some(Bad::AtomText)),
         },
-        _ => Ok(Some(Bad::AtomText)),
     }
 }
 
-fn bad_flag(words: &[Text]) -> Option<Bad>
-    ensures { result ≡ bad_flag words.now }
+fn bad_flags(alloc: Global, by_package: bool, words: &[Text]) -> Result<Option<Bad>, NoMemory>
+    ensures { IfOk result (λ bad. bad ≡ bad_in (flag_line by_package words.now)) }
 {
-    match words {
-        [] => None,
-        [word] => {
-            if is_flag_word(word.bytes()) {
-                None
-            } else {
-                Some(Bad::Flag)
-            }
-        }
-        _ => Some(Bad::Flag),
-    }
-}
-
-#[tactic(auto, using(crate::proofs::SliceRests::rest_of))]
-fn bad_package(alloc: Global, words: &[Text]) -> Result<Option<Bad>, NoMemory>
-    ensures { IfOk result (λ bad. bad ≡ bad_package words.now) }
-{
-    match words {
-        [] => Ok(None),
-        [text, words @ ..] => match file_atom(alloc, text.bytes())? {
-            Some(_) => {
-                if are_flag_words(words) {
-                    Ok(None)
-                } else {
-                    Ok(Some(Bad::Flag))
-                }
-            }
-            None => Ok(Some(Bad::AtomText)),
-        },
+    match flag_line(alloc, by_package, words)? {
+        FlagLine::Blank => Ok(None),
+        FlagLine::Good { .. } => Ok(None),
+        FlagLine::Bad { bad } => Ok(Some(bad)),
     }
 }
 
@@ -109,8 +84,8 @@ fn bad_line(alloc: Global, kind: LineFile, words: &[Text]) -> Result<Option<Bad>
     match kind {
         LineFile::ParentFile => Ok(bad_parent(words)),
         LineFile::MaskFile => bad_mask(alloc, words),
-        LineFile::FlagFile => Ok(bad_flag(words)),
-        LineFile::PackageFile => bad_package(alloc, words),
+        LineFile::FlagFile => bad_flags(alloc, false, words),
+        LineFile::PackageFile => bad_flags(alloc, true, words),
     }
 }
 

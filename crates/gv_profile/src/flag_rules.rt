@@ -1,17 +1,16 @@
 //! The rules on flags of a profile directory. Reading costs O(bytes), and a copy of the atom for each flag of a line.
-ghost use Rattle.std.specs.Prelude.{◌≡◌, ◌++◌, Some, None, false, true, map, IfOk, OnOk};
-ghost use Rattle.std.specs.List.{list_all};
+ghost use Rattle.std.specs.Prelude.{◌≡◌, ◌++◌, false, true, map, IfOk, OnOk};
+ghost use Rattle.gv_profile.specs.FlagLines.{is_off};
 ghost use Rattle.gv_profile.specs.Lines.{file_lines};
-ghost use Rattle.gv_profile.specs.FlagRules.{is_off, flag_of, is_flag_word, are_flag_words, rule_of, flag_rules, atom_rules, package_rules, line_rules, rules_among, rules_in, masks, forces, stable_rules, dir_rules};
+ghost use Rattle.gv_profile.specs.FlagRules.{rule_of, line_rules, rules_among, rules_in, masks, forces, stable_rules, dir_rules};
 
 use crate::eapi::has_stable;
+use crate::flag_lines::{FlagLine, flag_line, flag_of, flag_words};
 use crate::lines::line_words;
-use crate::mask_lines::file_atom;
 use crate::{DirFiles, NamedFiles};
 use gv_atom::Atom;
 use gv_base::{Cut, NoMemory, Text, next_piece};
 use gv_facts::{Effect, Rule, Rules};
-use gv_version::is_flag;
 use std::alloc::Global;
 
 /// What the rules of a file do, whether they are for stable packages alone, and whether each line begins with an atom.
@@ -22,21 +21,16 @@ pub(crate) struct RuleFile {
     by_package: bool,
 }
 
-/// Whether a word is a flag, or a hyphen and a flag.
-pub(crate) fn is_flag_word(word: &[u8]) -> bool
-    ensures { result ≡ is_flag_word word.now }
+/// Adds the rules that the bytes of a file have whose lines are as those of `package.use.force`: an atom, then flags.
+pub fn add_forcing_lines(alloc: Global, rules: &mut Rules, bytes: &[u8]) -> Result<(), NoMemory>
+    ensures { OnOk result (rules.new ≡ rules.old ++ rules_among (forces false true) (file_lines bytes.now)) }
 {
-    is_flag(flag_of(word))
-}
-
-/// Whether there are one or more words, each a flag or a hyphen and a flag.
-pub(crate) fn are_flag_words(words: &[Text]) -> bool
-    ensures { result ≡ are_flag_words words.now }
-{
-    match words {
-        [] => false,
-        _ => all_flag_words(words),
-    }
+    let forcing = RuleFile {
+        effect: Effect::Force,
+        stable: false,
+        by_package: true,
+    };
+    add_bytes(alloc, rules, forcing, bytes)
 }
 
 /// Adds the rules of a directory: those of plain files, stable files, package files and stable package files.
@@ -90,26 +84,6 @@ fn is_off(word: &[u8]) -> bool
     }
 }
 
-fn flag_of(word: &[u8]) -> &[u8]
-    ensures { result.now ≡ flag_of word.now }
-{
-    match word {
-        [b'-', flag @ ..] => flag,
-        _ => word,
-    }
-}
-
-fn all_flag_words(words: &[Text]) -> bool
-    ensures { result ≡ list_all is_flag_word words.now }
-{
-    for word in words {
-        if !is_flag_word(word.bytes()) {
-            return false;
-        }
-    }
-    true
-}
-
 fn copy_atom(alloc: Global, atom: &Option<Atom>) -> Result<Option<Atom>, NoMemory>
     ensures { IfOk result (λ copy. copy ≡ atom.now) }
 {
@@ -154,63 +128,6 @@ fn add_words(
     Ok(())
 }
 
-fn add_flag_line(
-    alloc: Global,
-    rules: &mut Rules,
-    file: RuleFile,
-    words: &[Text],
-) -> Result<(), NoMemory>
-    ensures { OnOk result (rules.new ≡ rules.old ++ flag_rules file words.now) }
-{
-    match words {
-        [word] => {
-            if is_flag_word(word.bytes()) {
-                rules.add(rule_of(alloc, file, &None, word.bytes())?)?;
-            }
-            Ok(())
-        }
-        _ => Ok(()),
-    }
-}
-
-fn add_atom_words(
-    alloc: Global,
-    rules: &mut Rules,
-    file: RuleFile,
-    words: &[Text],
-    atom: Option<Atom>,
-) -> Result<(), NoMemory>
-    ensures { OnOk result (rules.new ≡ rules.old ++ atom_rules file words.now atom) }
-{
-    match atom {
-        Some(atom) => {
-            if !are_flag_words(words) {
-                return Ok(());
-            }
-            add_words(alloc, rules, file, &Some(atom), words)
-        }
-        None => Ok(()),
-    }
-}
-
-#[tactic(auto, using(crate::proofs::SliceRests::rest_of))]
-fn add_package_line(
-    alloc: Global,
-    rules: &mut Rules,
-    file: RuleFile,
-    words: &[Text],
-) -> Result<(), NoMemory>
-    ensures { OnOk result (rules.new ≡ rules.old ++ package_rules file words.now) }
-{
-    match words {
-        [] => Ok(()),
-        [text, words @ ..] => {
-            let atom = file_atom(alloc, text.bytes())?;
-            add_atom_words(alloc, rules, file, words, atom)
-        }
-    }
-}
-
 fn add_line(
     alloc: Global,
     rules: &mut Rules,
@@ -219,10 +136,11 @@ fn add_line(
 ) -> Result<(), NoMemory>
     ensures { OnOk result (rules.new ≡ rules.old ++ line_rules file words.now) }
 {
-    if file.by_package {
-        add_package_line(alloc, rules, file, words)
-    } else {
-        add_flag_line(alloc, rules, file, words)
+    let flags = flag_words(file.by_package, words);
+    match flag_line(alloc, file.by_package, words)? {
+        FlagLine::Blank => Ok(()),
+        FlagLine::Good { atom } => add_words(alloc, rules, file, &atom, flags),
+        FlagLine::Bad { .. } => Ok(()),
     }
 }
 

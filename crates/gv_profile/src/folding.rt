@@ -4,16 +4,18 @@
 ghost use Rattle.std.specs.Prelude.{◌≡◌, ◌++◌, map, IfOk, OnOk};
 ghost use Rattle.std.specs.FinMap as finite;
 ghost use Rattle.std.specs.Option.{option_copied};
+ghost use Rattle.gv_base.specs.Order.{has_text};
 ghost use Rattle.gv_defaults.specs.Settings.{words_of};
+ghost use Rattle.gv_facts.specs.Visible.{testing};
 ghost use Rattle.gv_profile.specs.Folding.{vars_with, with_files, with_masks, with_dir, start, value_list, profile_with};
-ghost use Rattle.gv_profile.specs.Names.{iuse_implicit, use_expand, use_expand_implicit, use_expand_unprefixed, use_expand_values};
+ghost use Rattle.gv_profile.specs.Names.{accept_keywords, iuse_implicit, use_expand, use_expand_implicit, use_expand_unprefixed, use_expand_values};
 
 use crate::flag_rules::add_dir_rules;
 use crate::mask_lines::{MaskLines, add_mask_lines, masks_of};
 use crate::{DescLine, DirFiles, Dirs, NamedFiles};
 use gv_base::{NoMemory, Text, Texts};
 use gv_defaults::{Vars, read_defaults};
-use gv_facts::{Profile, Rules, ValueList, ValueLists};
+use gv_facts::{Profile, Rules, ValueList, ValueLists, has_testing};
 use std::alloc::Global;
 
 /// What the directories so far come to.
@@ -81,6 +83,7 @@ pub(crate) fn profile_with(
         arch: line.arch.copy(alloc)?,
         path: line.path.copy(alloc)?,
         status: line.status,
+        testing: accepts_testing(alloc, &vars, &line.arch)?,
         iuse_implicit: iuse_implicit(alloc, &vars)?,
         expand: use_expand(alloc, &vars)?,
         expand_implicit,
@@ -120,6 +123,21 @@ fn with_files(alloc: Global, folded: Folded, files: Option<&DirFiles>) -> Result
         }
         None => Ok(folded),
     }
+}
+
+#[tactic(auto, unfolding(crate::specs::Names::accept_keywords))]
+fn accept_keywords(alloc: Global, vars: &Vars) -> Result<Texts, NoMemory>
+    ensures { IfOk result (λ words. words ≡ words_of (finite.get vars.now accept_keywords)) }
+{
+    vars.words(alloc, b"ACCEPT_KEYWORDS")
+}
+
+// Whether ACCEPT_KEYWORDS has the arch with `~`.
+fn accepts_testing(alloc: Global, vars: &Vars, arch: &Text) -> Result<bool, NoMemory>
+    ensures { IfOk result (λ accepts. accepts ≡ has_text (words_of (finite.get vars.now accept_keywords)) (testing arch.now)) }
+{
+    let words = accept_keywords(alloc, vars)?;
+    Ok(has_testing(&words, arch.bytes()))
 }
 
 #[tactic(auto, unfolding(crate::specs::Names::iuse_implicit))]

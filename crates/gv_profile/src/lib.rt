@@ -1,15 +1,16 @@
 //! Profiles (PMS chapters 4 and 5): the lines of `profiles.desc`, the stacks of directories, and what a stack comes to.
 //!
-//! - `lines`, `paths`: the words of a line; paths below a folder and relative to one.
+//! - `lines`, `paths`: the words of a line; paths relative to a folder.
 //! - `notes`: bad lines, each told with its place.
 //! - `desc`, `parent_files`, `eapi`: the lists of profiles and of parents, and the EAPI of a directory.
 //! - `files`, `dirs`: the files of a directory as they were read, and the directories by path.
-//! - `mask_lines`, `flag_rules`, `folding`: what the files of one directory add to what a stack comes to.
-//! - `frames`, `walking`, `profiles`: the walk of a stack, folded while it goes, without recursion.
+//! - `mask_lines`, `flag_lines`: which lines of a mask or flag file are good, and what they say.
+//! - `flag_rules`, `folding`: what the files of one directory add to what a stack comes to.
+//! - `frames`, `walking`, `profiles`: the walk of a stack, without recursion; the stack and the profile of a line.
 //! - `bad_lines`: the bad lines of a directory.
 //! - `laws`: what stacks, masks and rules on flags come to, in a maintainer's words.
 //!
-//! The crate stands on `gv_atom`, `gv_defaults` and `gv_facts`. The layer above reads the files, hands them over as `Dirs`
+//! The crate stands on `gv_reading` for files with their paths, on `gv_atom`, `gv_defaults` and `gv_facts`. The layer above reads the files, hands them over as `Dirs`
 //! and takes the profile of each line, or the first fault of its walk, by `fold`.
 #![tactic(auto)]
 
@@ -19,6 +20,7 @@ mod dirs;
 mod eapi;
 mod faults;
 mod files;
+mod flag_lines;
 mod flag_rules;
 mod folding;
 mod frames;
@@ -32,14 +34,17 @@ mod profiles;
 mod walking;
 
 pub use bad_lines::{dir_notes, mask_notes};
-pub use desc::{DescLine, DescLines, DescRead, read_desc};
+pub use desc::{DescLine, DescLines, DescRead, desc_path, read_desc};
 pub use dirs::Dirs;
 pub use faults::ProfileFault;
-pub use files::{DirFiles, NamedFile, NamedFiles};
+pub use files::DirFiles;
+pub use flag_lines::are_flag_words;
+pub use flag_rules::add_forcing_lines;
+pub use gv_reading::{NamedFile, NamedFiles};
 pub use laws::{flag_law, mask_law, stack_law};
-pub use lines::line_words;
+pub use lines::{line_words, next_number};
+pub use mask_lines::file_atom;
 pub use notes::{PlaceNote, PlaceNotes};
 pub use parent_files::{ParentLine, ParentLines, parents};
-pub use paths::within;
-pub use profiles::{fold, line_dir};
+pub use profiles::{fold, line_dir, stack, top_dir, word_dir};
 pub use walking::parents_of;

@@ -2,9 +2,7 @@
 //!
 //! Reading costs O(bytes). `masks_of` goes through the lines once, from the last to the first, with the set of the texts
 //! that the lines behind take away: O(n log n) comparisons for n lines, however many of them take something away.
-ghost use Rattle.std.specs.Prelude.{◌≡◌, ◌||◌, ◌++◌, ◌∷◌, [], List, ℕ, reverse, IfOk, OnOk, OnErr};
-ghost use Rattle.std.specs.Str.{bytes_eq};
-ghost use Rattle.gv_base.specs.Order.{has_text};
+ghost use Rattle.std.specs.Prelude.{◌≡◌, ◌++◌, ◌∷◌, [], List, ℕ, reverse, IfOk, OnOk, OnErr};
 ghost use Rattle.gv_facts.specs.declared.masks.Mask as declared_mask;
 ghost use Rattle.gv_atom.specs.Reading.{read_atom};
 ghost use Rattle.gv_profile.specs.Behind.{still};
@@ -14,8 +12,9 @@ ghost use Rattle.gv_profile.specs.Lines.{file_lines};
 use crate::NamedFiles;
 use crate::lines::line_words;
 use gv_atom::{Atom, AtomFault, read_atom};
-use gv_base::{Cut, NoMemory, Text, in_order_law, next_piece};
+use gv_base::{Cut, NoMemory, Text, next_piece};
 use gv_facts::{Mask, Masks};
+use gv_reading::{add_key, has_key};
 use std::alloc::Global;
 use std::collections::BTreeSet;
 use std::marker::Model;
@@ -68,9 +67,9 @@ impl MaskLines {
     }
 }
 
-/// The atom of a word, where it is one that blocks nothing and asks nothing of flags.
+/// The atom of a word of a file under `profiles`, where it is one that blocks nothing and asks nothing of flags.
 #[tactic(auto, unfolding(crate::specs::MaskLines::file_atom))]
-pub(crate) fn file_atom(alloc: Global, bytes: &[u8]) -> Result<Option<Atom>, NoMemory>
+pub fn file_atom(alloc: Global, bytes: &[u8]) -> Result<Option<Atom>, NoMemory>
     ensures { IfOk result (λ atom. atom ≡ file_atom bytes.now) }
 {
     match any_atom(alloc, bytes)? {
@@ -79,8 +78,8 @@ pub(crate) fn file_atom(alloc: Global, bytes: &[u8]) -> Result<Option<Atom>, NoM
     }
 }
 
-/// What a word of a `package.mask` says.
-pub(crate) fn mask_of(alloc: Global, word: &[u8]) -> Result<Option<MaskLine>, NoMemory>
+// What a word of a `package.mask` says.
+fn mask_of(alloc: Global, word: &[u8]) -> Result<Option<MaskLine>, NoMemory>
     ensures { IfOk result (λ line. line ≡ mask_of word.now) }
 {
     match word {
@@ -158,7 +157,8 @@ fn adding(alloc: Global, text: &[u8]) -> Result<Option<MaskLine>, NoMemory>
     }
 }
 
-fn mask_in(alloc: Global, words: &[Text]) -> Result<Option<MaskLine>, NoMemory>
+/// What a line of a `package.mask` with these words says, where it is a good one.
+pub(crate) fn mask_in(alloc: Global, words: &[Text]) -> Result<Option<MaskLine>, NoMemory>
     ensures { IfOk result (λ line. line ≡ mask_in words.now) }
 {
     match words {
@@ -178,20 +178,6 @@ fn add_lines(alloc: Global, lines: &mut MaskLines, bytes: &[u8]) -> Result<(), N
             None => {}
         }
     }
-    Ok(())
-}
-
-fn has_key(set: &BTreeSet<Text>, text: &Text) -> bool
-    ensures { result ≡ has_text set.now.keys text.now }
-{
-    set.contains(text)
-}
-
-fn add_key(set: &mut BTreeSet<Text>, word: Text) -> Result<(), NoMemory>
-    ensures { OnOk result ((text : List ℕ) → has_text set.new.keys text ≡ (bytes_eq text word || has_text set.old.keys text)) }
-{
-    in_order_law();
-    set.insert(word)?;
     Ok(())
 }
 

@@ -1,20 +1,10 @@
-//! Paths below a folder and relative to one. Each call costs O(the bytes of the paths).
+//! Paths relative to a folder. Each call costs O(the bytes of the paths).
 ghost use Rattle.std.specs.Prelude.{◌≡◌, ◌++◌, IfOk, OnOk, Some, None, if◌then◌else◌};
 ghost use Rattle.gv_base.specs.Pieces.{pieces};
-ghost use Rattle.gv_profile.specs.Paths.{within, is_relative_part, is_relative, without_slash, place_after, path_of, resolved, tail_of};
+ghost use Rattle.gv_profile.specs.Paths.{is_relative_part, is_relative, without_slash, place_after, path_of, resolved, tail_of};
 
 use gv_base::{Cut, NoMemory, Text, has_plain_bytes, next_piece};
 use std::alloc::Global;
-
-/// The path of a name in a folder.
-pub fn within(alloc: Global, dir: &Text, name: &[u8]) -> Result<Text, NoMemory>
-    ensures { IfOk result (λ path. path ≡ within dir.now name.now) }
-{
-    let mut path = dir.copy(alloc)?;
-    path.append(b"/".as_slice())?;
-    path.append(name)?;
-    Ok(path)
-}
 
 /// Whether the bytes are a relative path.
 pub(crate) fn is_relative(path: &[u8]) -> bool

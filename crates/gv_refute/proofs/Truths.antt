@@ -1,72 +1,27 @@
 -- A step that follows is true wherever the clauses that it names are.
-use Rattle.std.proofs.Common.{◌≡◌, ◌⊎◌, inl, inr, ℕ, zero, suc, ◌+◌, ◌-◌, ◌<◌, ◌/◌, ◌%◌, Bool, true, false, cond, ◌||◌, ◌&&◌, not, nat_eq, Option, Some, None, List, [], ◌∷◌, ◌++◌, get_or, refl, sym, ap, ◌∙◌, arith}
+use Rattle.std.proofs.Common.{◌≡◌, ◌⊎◌, inl, inr, ℕ, zero, suc, ◌+◌, Bool, true, false, cond, ◌||◌, not, nat_eq, Option, Some, None, List, [], ◌∷◌, ◌++◌, refl, sym, ap, ◌∙◌, arith}
 use Rattle.std.specs.Prelude.{slice_get, slice_set, replicate}
 use Rattle.std.proofs.lemmas.Grind.{common_steps}
 use Rattle.gv_logic.specs.Literals.{opposite, lit_true, clause_true, AllTrue}
 use Rattle.gv_logic.specs.Partial.{is_true, all_false, unit_after, is_other}
 use Rattle.gv_logic.specs.Logs.{Step, started, last_is_false, unit_of, with_unit, and_then, refuted, follows, first_refused, step_clauses, HasList, ProvesNone}
-
-pub not_not : (b : Bool) → b ≡ not (not b)
-not_not true = refl
-not_not false = refl
+use Rattle.gv_logic.specs.Opposites.{and_true, lit_opposite, none_true, or_false, set_is}
 
 false_of_not : (b : Bool) → not b ≡ true → b ≡ false
 false_of_not true e = cc
 false_of_not false e = refl
 
-even : (r : ℕ) → nat_eq r 0 ≡ true → r ≡ 0
-even r e = grind (arith, common_steps)
-
-odd : (r : ℕ) → nat_eq r 0 ≡ false → 0 < r
-odd r e = grind (arith, common_steps)
-
--- the opposite of a literal has the other value
-pub lit_opposite : (v : ℕ → Bool) (lit : ℕ) → lit_true v (opposite lit) ≡ not (lit_true v lit)
-lit_opposite v lit = by (nat_eq (lit % 2) 0) refl
-  where
-    by : (b : Bool) → nat_eq (lit % 2) 0 ≡ b → lit_true v (cond b (lit + 1) (lit - 1)) ≡ not (cond b (v (lit / 2)) (not (v (lit / 2))))
-    by true e =
-        let z = even (lit % 2) e in
-        let r : (lit + 1) % 2 ≡ 1 = omega arith in
-        let d : (lit + 1) / 2 ≡ lit / 2 = omega arith in
-        rw (r, d) refl
-    by false e =
-        let z = odd (lit % 2) e in
-        let r : (lit - 1) % 2 ≡ 0 = omega arith in
-        let d : (lit - 1) / 2 ≡ lit / 2 = omega arith in
-        rw (r, d) (not_not (v (lit / 2)))
-
 -- the assignment's true literals are true at v
 unfoldable Agrees : (ℕ → Bool) → List Bool → Type 0
 Agrees v on = (lit : ℕ) → is_true on lit ≡ true → lit_true v lit ≡ true
-
-set_is : (a : List Bool) (i k : ℕ) → get_or (slice_set a i true) k false ≡ true → (k ≡ i) ⊎ (get_or a k false ≡ true)
-set_is [] i k e = inr e
-set_is (x ∷ xs) zero zero e = inl refl
-set_is (x ∷ xs) zero (suc k) e = inr e
-set_is (x ∷ xs) (suc i) zero e = inr e
-set_is (x ∷ xs) (suc i) (suc k) e = elim (set_is xs i k e) [ inl h ↦ inl (ap suc h) | inr h ↦ inr h ]
 
 agrees_set : (v : ℕ → Bool) (on : List Bool) (lit : ℕ) → Agrees v on → lit_true v lit ≡ true → Agrees v (slice_set on lit true)
 unfolding Agrees
 agrees_set v on lit a t k e = elim (set_is on lit k e) [ inl s ↦ rw s t | inr h ↦ a k h ]
 
-none_true : (n k : ℕ) → get_or (replicate n false) k false ≡ true → ⊥
-none_true zero k e = cc
-none_true (suc n) zero e = cc
-none_true (suc n) (suc k) e = none_true n k e
-
 agrees_none : (v : ℕ → Bool) (n : ℕ) → Agrees v (replicate n false)
 unfolding Agrees
 agrees_none v n k e = absurd (none_true n k e)
-
-pub or_false : (a b : Bool) → (a || b) ≡ false → (a ≡ false) × (b ≡ false)
-or_false true b e = cc
-or_false false b e = (refl, e)
-
-pub and_true : (a b : Bool) → (a && b) ≡ true → (a ≡ true) × (b ≡ true)
-and_true true b e = (refl, e)
-and_true false b e = cc
 
 some_of : {X : Type 0} (b : Bool) (o : Option X) (x : X) → cond b o None ≡ Some x → o ≡ Some x
 some_of true o x e = e

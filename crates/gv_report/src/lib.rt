@@ -7,8 +7,6 @@
 //! - `report`: a report, what it speaks of, and lists of them. Contracts see a report as a value; `telling` says so.
 //! - `order`: the order of reports. A comparison costs O(bytes up to the first part that differs) and takes no memory.
 //! - `distinct`: reports in order, equal ones once. O(n log n) comparisons of n reports.
-//! - `exchanging`: reports in order of which those at places are exchanged for others. Only what stands between the first and the
-//!   last difference is moved. `merging`: a few more among reports that are in order. O(log n) comparisons for each of them.
 //! - `options`, `selecting`: which reports are selected.
 //! - `line`, `json`: the two texts of a report. O(bytes). `printable`: which reports may be written as JSON.
 //! - `emitter`: the text of the reports that a stored test takes.
@@ -17,12 +15,10 @@
 
 mod distinct;
 mod emitter;
-mod exchanging;
 mod json;
 mod keyword;
 mod laws;
 mod line;
-mod merging;
 mod options;
 mod order;
 mod printable;
@@ -32,9 +28,8 @@ mod telling;
 
 pub use distinct::ordered;
 pub use emitter::Emitter;
-pub use exchanging::exchanged;
-pub use keyword::{Keyword, Keywords};
-pub use laws::{line_law, object_law, order_law, ordered_law, renewed_law, selected_law};
+pub use keyword::{Keyword, Keywords, Takers};
+pub use laws::{line_law, object_law, order_law, ordered_law, selected_law};
 pub use options::Options;
 pub use report::{ContextName, Report, Reports, Subject};
 pub use selecting::selected;

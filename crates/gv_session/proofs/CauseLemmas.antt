@@ -9,11 +9,11 @@ use Rattle.gv_checks.specs.declared.fault.JudgeFault.{JudgeFault}
 use Rattle.gv_checks.specs.declared.fault.JudgeFault.TheVariants as judges
 use Rattle.gv_edits.specs.Edits.{edited_told}
 use Rattle.gv_edits.specs.declared.edit.Edit.{Edit}
-use Rattle.gv_load.specs.EntryEdits.{IsAllBut}
+use Rattle.gv_reload.specs.EntryEdits.{IsAllBut}
 use Rattle.gv_load.specs.Loading.{LoadCause}
-use Rattle.gv_load.specs.Rereading.{RereadCause}
-use Rattle.gv_load.specs.declared.faults.LoadFault.{LoadFault}
-use Rattle.gv_load.specs.declared.faults.LoadFault.TheVariants as loads
+use Rattle.gv_reload.specs.Rereading.{RereadCause}
+use Rattle.gv_reading.specs.declared.faults.LoadFault.{LoadFault}
+use Rattle.gv_reading.specs.declared.faults.LoadFault.TheVariants as loads
 use Rattle.gv_load.specs.declared.loading.Repo.{Repo}
 use Rattle.gv_report.specs.declared.options.Options.{Options}
 use Rattle.gv_session.specs.Handing.{HandsJudge, HandsLoad}

@@ -7,22 +7,22 @@ use Rattle.gv_base.specs.Counts.{Counts}
 use Rattle.gv_base.specs.FileMap.{FileMap}
 use Rattle.gv_edits.specs.Edits.{edit_path, edited, edited_told}
 use Rattle.gv_edits.specs.declared.edit.Edit.{Edit}
-use Rattle.gv_load.specs.EntryEdits.{AreAlikeBut, AreClassless, DifferIn, EntriesLaw, IsAllBut, IsPartOf, is_entry, is_in_metadata, is_other, together}
-use Rattle.gv_load.specs.Replacing.{IsAfter, IsChange}
-use Rattle.gv_load.specs.Rereading.{IsRereadOf, TellsWhole}
-use Rattle.gv_load.specs.declared.replacing.Changed.TheVariants.{Part, Other}
+use Rattle.gv_reload.specs.EntryEdits.{AreAlikeBut, DifferIn, EntriesLaw, IsAllBut, IsPartOf, is_entry, is_in_metadata, is_other, together}
+use Rattle.gv_load.specs.Repository.{AreClassless, AreInPackageOrder}
+use Rattle.gv_reload.specs.Replacing.{IsAfter, IsChange}
+use Rattle.gv_reload.specs.Rereading.{IsRereadOf, TellsWhole}
+use Rattle.gv_reload.specs.declared.replacing.Changed.TheVariants.{Part, Other}
 use Rattle.gv_load.specs.Loading.{loading}
-use Rattle.gv_load.specs.Look.{look_of}
-use Rattle.gv_load.specs.Repository.{AreInPackageOrder}
+use Rattle.gv_reading.specs.Look.{look_of}
 use Rattle.gv_load.specs.declared.loading.Loaded.{Loaded}
 use Rattle.gv_load.specs.declared.loading.Repo.{Repo}
 use Rattle.gv_report.specs.Distinct.{ordered}
 use Rattle.gv_report.specs.Selecting.{selected}
 use Rattle.gv_report.specs.declared.options.Options.{Options}
 use Rattle.gv_report.specs.declared.report.Report.{Report}
-use Rattle.gv_checks.specs.Mentioned.{are_kept, are_mentioned, member_numbers}
+use Rattle.gv_renew.specs.Mentioned.{member_body, other_bodies}
 use Rattle.gv_checks.specs.Queries.{queries}
-use Rattle.gv_checks.specs.Renewal.{AreOfBefore, is_due}
+use Rattle.gv_renew.specs.Renewal.{AreOfBefore, is_due}
 use Rattle.gv_checks.specs.RepoReports.{reports as all_reports, scan_reports}
 use Rattle.gv_session.specs.Due.{due, is_small, new_paths}
 use Rattle.gv_session.specs.Judging.{IsAgain, IsAll, IsAnew, IsJudgedFor, IsRefusedFor, Outset}
@@ -88,7 +88,7 @@ all_due o now l a all = record {
   seen = a.anew.seen;
   within = a.anew.within;
   reports = a.anew.reports;
-  mentioned = subst (λ (r : Repo). l.mentioned ≡ are_mentioned r.bodies) (sym a.anew.repo_is) a.anew.mentioned;
+  mentioned = subst (λ (r : Repo). l.mentioned ≡ r.bodies) (sym a.anew.repo_is) a.anew.mentioned;
   lowered = a.anew.lowered;
   few = by o.told all;
 }
@@ -282,13 +282,13 @@ module _ (o : Outset) (last : Last) (paths : List (List ℕ)) (l : IsLast o.opti
         by (Some files) e = absurd (change.1 l.repo l.but (told_differ files e))
 
   -- the packages that aren't edited are the old ones
-  kept_numbers : (a b : Repo) → IsAllBut a b → are_kept paths b ≡ are_kept paths a
-  kept_numbers a b but = ap (λ ps. map member_numbers (filter (is_other paths) (together ps b.bodies))) but.pkgs
-      ∙ ap (λ bs. map member_numbers (filter (is_other paths) (together a.pkgs bs))) but.bodies
+  kept_bodies : (a b : Repo) → IsAllBut a b → other_bodies paths b ≡ other_bodies paths a
+  kept_bodies a b but = ap (λ ps. map member_body (filter (is_other paths) (together ps b.bodies))) but.pkgs
+      ∙ ap (λ bs. map member_body (filter (is_other paths) (together a.pkgs bs))) but.bodies
 
-  pub same_kept : (part : Repo) (most : ℕ) → IsWhole o paths l.repo part most → are_kept paths last.repo ≡ are_kept paths part
+  pub same_kept : (part : Repo) (most : ℕ) → IsWhole o paths l.repo part most → other_bodies paths last.repo ≡ other_bodies paths part
   same_kept part most w =
-      sym (kept_numbers last.repo l.repo l.but) ∙ (ap (map member_numbers) (sym w.differ.members) ∙ kept_numbers part w.whole w.is_part.but)
+      sym (kept_bodies last.repo l.repo l.but) ∙ (ap (map member_body) (sym w.differ.members) ∙ kept_bodies part w.whole w.is_part.but)
 
   of_before : (whole : Repo) → DifferIn paths l.repo whole → AreOfBefore o.options paths whole last.reports
   of_before whole differ = record {
@@ -318,7 +318,7 @@ module _ (o : Outset) (last : Last) (paths : List (List ℕ)) (l : IsLast o.opti
           seen = a.seen;
           within = a.renewed.within;
           reports = a.renewed.reports_are;
-          mentioned = subst (λ (r : Repo). new.mentioned ≡ are_mentioned r.bodies) (sym a.repo_is) a.mentioned;
+          mentioned = subst (λ (r : Repo). new.mentioned ≡ r.bodies) (sym a.repo_is) a.mentioned;
           lowered = at_most _ _ _ _ a.renewed.lowered (few_picked (is_due paths) (queries o.options w.whole));
           few = whatever o.told (subst (λ n. now.lower ≤ o.before.lower + n) (sym is_due_all) a.renewed.lowered);
         }

@@ -6,7 +6,7 @@ use Rattle.gv_base.specs.Counts.{Counts}
 use Rattle.gv_base.specs.FileMap.{FileMap}
 use Rattle.gv_edits.specs.declared.edit.Edit.{Edit}
 use Rattle.gv_checks.specs.RepoReports.{reports as all_reports, scan_reports, scan_text}
-use Rattle.gv_load.specs.EntryEdits.{IsAllBut}
+use Rattle.gv_reload.specs.EntryEdits.{IsAllBut}
 use Rattle.gv_load.specs.Repository.{AreInPackageOrder}
 use Rattle.gv_load.specs.declared.loading.Repo.{Repo}
 use Rattle.gv_report.specs.Emitted.{emitted, reports_text}

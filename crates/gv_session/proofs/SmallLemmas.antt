@@ -1,12 +1,23 @@
 -- The edits behind those that were seen, one after another.
-use Rattle.std.proofs.Common.{◌≡◌, ℕ, zero, suc, ◌+◌, ◌≤◌, true, false, ◌&&◌, List, [], ◌∷◌, ◌++◌, length, refl, sym, ap, ◌∙◌, Some, None, append_assoc, append-nil, arith}
-use Rattle.std.specs.Prelude.{option_map, slice_get}
+use Rattle.std.proofs.Common.{◌≡◌, ℕ, zero, suc, ◌+◌, ◌≤◌, ◌<◌, Bool, true, false, ◌&&◌, List, [], ◌∷◌, ◌++◌, length, refl, sym, ap, ◌∙◌, Some, None, append_assoc, append-nil, arith}
+use Rattle.std.specs.Prelude.{Option, option_map, slice_get}
+use Rattle.std.proofs.lemmas.Bool.{false≢true}
 use Rattle.std.specs.List.{list_all}
 use Rattle.gv_edits.specs.Edits.{edit_path}
 use Rattle.gv_edits.specs.declared.edit.Edit.{Edit}
 use Rattle.gv_load.specs.declared.loading.Repo.{Repo}
 use Rattle.gv_session.specs.Due.{is_small, new_paths}
 use Rattle.gv_session.specs.Small.{AreSmall, AreUpTo}
+
+-- an edit that is there has a path
+abbrev is_path : Option (List ℕ) → Bool
+is_path None = false
+is_path (Some path) = true
+
+pub not_there : (edits : List Edit) (place : ℕ) → place < length edits → option_map edit_path (slice_get edits place) ≡ None → ⊥
+not_there [] place few e = absurd (omega (arith, few))
+not_there (d ∷ ds) zero few e = absurd (false≢true (ap is_path (sym e)))
+not_there (d ∷ ds) (suc n) few e = not_there ds n (omega (arith, few)) e
 
 -- the path of an edit comes before those of the edits behind it
 next_path : (edits : List Edit) (n : ℕ) (path : List ℕ) → option_map edit_path (slice_get edits n) ≡ Some path → new_paths edits n ≡ path ∷ new_paths edits (suc n)

@@ -3,11 +3,11 @@ use Rattle.std.specs.Prelude.{ℕ, Bool, ◌&&◌, not, if◌then◌else◌, Lis
 use Rattle.std.specs.List.{list_all, list_any}
 use Rattle.gv_edits.specs.Edits.{edit_path}
 use Rattle.gv_edits.specs.declared.edit.Edit.{Edit}
-use Rattle.gv_load.specs.EntryEdits.{is_entry, is_in_metadata}
+use Rattle.gv_reload.specs.EntryEdits.{is_entry, is_in_metadata}
 use Rattle.gv_load.specs.declared.loading.Repo.{Repo}
 use Rattle.gv_report.specs.declared.options.Options.{Options}
 use Rattle.gv_checks.specs.Queries.{queries}
-use Rattle.gv_checks.specs.Renewal.{is_due}
+use Rattle.gv_renew.specs.Renewal.{is_due}
 
 -- the paths of the edits behind the first so many
 abbrev pub new_paths : List Edit → (seen : ℕ) → List (List ℕ)

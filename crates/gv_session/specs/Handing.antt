@@ -1,7 +1,7 @@
 -- Words of private contracts: a fault that is handed on.
 use Rattle.std.specs.Prelude.{◌≡◌}
-use Rattle.gv_load.specs.declared.faults.LoadFault.{LoadFault}
-use Rattle.gv_load.specs.declared.faults.LoadFault.TheVariants as loads
+use Rattle.gv_reading.specs.declared.faults.LoadFault.{LoadFault}
+use Rattle.gv_reading.specs.declared.faults.LoadFault.TheVariants as loads
 use Rattle.gv_load.specs.declared.loading.Repo.{Repo}
 use Rattle.gv_checks.specs.declared.fault.JudgeFault.{JudgeFault}
 use Rattle.gv_checks.specs.declared.fault.JudgeFault.TheVariants as judges

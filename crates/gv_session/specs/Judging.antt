@@ -1,17 +1,21 @@
 -- Words of private contracts: the reports of the edited files, judged anew or renewed.
+-- After edits of entries alone these alone are read, and the other packages are taken from the repository of the last
+-- report (`reread_entries` of `gv_load`); only what rests on the edited ones is judged (`renew` of `gv_renew`). Where
+-- that call can't tell (`Unclear`), all is loaded, the repository is put together of both (`with_entries`), and
+-- `entries_law` says that it is that of the edited files; so what may be lowered doesn't rest on how the files were
+-- read. With no new edit the last report stands.
 use Rattle.std.specs.Prelude.{◌≡◌, ℕ, ◌+◌, ◌≤◌, List, length, Option, option_map, IfSome}
 use Rattle.std.specs.List.{AllByRecursion}
 use Rattle.gv_base.specs.Counts.{Counts}
 use Rattle.gv_base.specs.FileMap.{FileMap}
 use Rattle.gv_edits.specs.declared.edit.Edit.{Edit}
-use Rattle.gv_load.specs.EntryEdits.{AreClassless, IsAllBut}
-use Rattle.gv_load.specs.Repository.{AreInPackageOrder}
+use Rattle.gv_load.specs.Repository.{AreClassless, AreInPackageOrder}
+use Rattle.gv_reload.specs.EntryEdits.{IsAllBut}
 use Rattle.gv_load.specs.declared.loading.Repo.{Repo}
 use Rattle.gv_report.specs.declared.options.Options.{Options}
 use Rattle.gv_checks.specs.Limits.{IsWithin}
-use Rattle.gv_checks.specs.Mentioned.{are_mentioned}
 use Rattle.gv_checks.specs.Queries.{queries}
-use Rattle.gv_checks.specs.Renewal.{IsRenewed}
+use Rattle.gv_renew.specs.Renewal.{IsRenewed}
 use Rattle.gv_checks.specs.RepoReports.{scan_reports}
 use Rattle.gv_session.specs.Due.{due}
 use Rattle.gv_session.specs.Session.{CauseFor, IsFound, IsLoaded}
@@ -42,7 +46,7 @@ pub record IsJudgedFor (o : Outset) (now : Counts) (l : Last) : Type 0 where
   pub seen : l.seen ≡ length o.edits
   pub within : AllByRecursion IsWithin (queries o.options repo)
   pub reports : l.reports ≡ scan_reports o.options repo
-  pub mentioned : l.mentioned ≡ are_mentioned l.repo.bodies
+  pub mentioned : l.mentioned ≡ l.repo.bodies
   pub lowered : now.lower ≤ o.before.lower + length (queries o.options repo)
   pub few : IfSome o.told (λ files. now.lower ≤ o.before.lower + due o.options repo o.edits o.seen)
 
@@ -61,7 +65,7 @@ pub record IsAnew (options : Options) (repo : Repo) (most : ℕ) (edits : List E
   pub seen : l.seen ≡ length edits
   pub within : AllByRecursion IsWithin (queries options repo)
   pub reports : l.reports ≡ scan_reports options repo
-  pub mentioned : l.mentioned ≡ are_mentioned repo.bodies
+  pub mentioned : l.mentioned ≡ repo.bodies
   pub lowered : now.lower ≤ before.lower + length (queries options repo)
 
 -- those of the repository that the files with the edits load to, all judged anew
@@ -81,4 +85,4 @@ pub record IsAgain (options : Options) (paths : List (List ℕ)) (part whole : R
   pub found : l.found ≡ most
   pub seen : l.seen ≡ length edits
   pub renewed : IsRenewed options paths whole before now l.reports
-  pub mentioned : l.mentioned ≡ are_mentioned part.bodies
+  pub mentioned : l.mentioned ≡ part.bodies

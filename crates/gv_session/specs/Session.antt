@@ -1,4 +1,8 @@
 -- A session: its edits, its reports, and why there is none.
+-- Contracts see a session as its options, the list of its edits, and what the last report left. What is kept is so of
+-- the tree's files (`Agrees`), which is what a caller has to hold; a session without a report keeps nothing. Where the
+-- edited files aren't told nothing is lost by that: the text is still that of some repository. A refusal by a query
+-- hands the repository out beside the fault, since the query's name has numbers of that repository.
 use Rattle.std.specs.Prelude.{◌≡◌, ℕ, ◌+◌, ◌≤◌, List, [], ◌∷◌, ◌++◌, length, take, Option, option_map, IfSome, Ok, Err}
 use Rattle.std.specs.List.{AllByRecursion}
 use Rattle.gv_base.specs.Causes.{Rose}
@@ -6,17 +10,15 @@ use Rattle.gv_base.specs.Counts.{Counts}
 use Rattle.gv_base.specs.FileMap.{FileMap}
 use Rattle.gv_edits.specs.Edits.{edited_told}
 use Rattle.gv_edits.specs.declared.edit.Edit.{Edit}
-use Rattle.gv_load.specs.EntriesPass.{PassesWithin}
-use Rattle.gv_load.specs.EntryEdits.{AreClassless, IsAllBut}
-use Rattle.gv_load.specs.Loading.{loading}
-use Rattle.gv_load.specs.Look.{look_of}
-use Rattle.gv_load.specs.Repository.{AreInPackageOrder}
-use Rattle.gv_load.specs.declared.faults.LoadFault.{LoadFault}
-use Rattle.gv_load.specs.declared.faults.LoadFault.TheVariants as loads
+use Rattle.gv_load.specs.Loading.{PassesWithin, loading}
+use Rattle.gv_load.specs.Repository.{AreClassless, AreInPackageOrder}
+use Rattle.gv_reload.specs.EntryEdits.{IsAllBut}
+use Rattle.gv_reading.specs.Look.{look_of}
+use Rattle.gv_reading.specs.declared.faults.LoadFault.{LoadFault}
+use Rattle.gv_reading.specs.declared.faults.LoadFault.TheVariants as loads
 use Rattle.gv_load.specs.declared.loading.Repo.{Repo}
 use Rattle.gv_report.specs.declared.options.Options.{Options}
 use Rattle.gv_checks.specs.Limits.{IsWithin, Refuses}
-use Rattle.gv_checks.specs.Mentioned.{are_mentioned}
 use Rattle.gv_checks.specs.Queries.{queries}
 use Rattle.gv_checks.specs.RepoReports.{scan_reports, scan_text}
 use Rattle.gv_checks.specs.declared.fault.JudgeFault.TheVariants as judges
@@ -68,8 +70,8 @@ pub record IsReport (s : State) (told : Option FileMap) (before now : Counts) (t
   pub few : IfSome told (λ files. now.lower ≤ before.lower + due s.options repo s.edits (seen_in s))
 
 -- what a report left is so of the files with the edits that it saw: the repository that is kept is theirs but for its notes, so many
--- files are found at most, each of its queries was within the limits, the reports are those of its scan, and the names that its
--- packages mention are known by their numbers
+-- files are found at most, each of its queries was within the limits, the reports are those of its scan, and the mentioned names are
+-- those of its packages
 pub record IsLast (options : Options) (edits : List Edit) (told : Option FileMap) (l : Last) : Type 0 where
   pub repo : Repo
   pub but : IsAllBut l.repo repo
@@ -81,7 +83,7 @@ pub record IsLast (options : Options) (edits : List Edit) (told : Option FileMap
   pub found : IsFound (take l.seen edits) told l.found
   pub within : AllByRecursion IsWithin (queries options repo)
   pub reports : l.reports ≡ scan_reports options repo
-  pub mentioned : l.mentioned ≡ are_mentioned l.repo.bodies
+  pub mentioned : l.mentioned ≡ l.repo.bodies
 
 -- what a session keeps is so of these files
 abbrev pub Agrees : (told : Option FileMap) → State → Type 0

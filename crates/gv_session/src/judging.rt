@@ -3,12 +3,12 @@
 //! Judging anew costs what `load_counted`, `judge` and `Mentioned::of` cost. After edits of entries alone a report costs what `reread_entries` and
 //! `renew` cost; where it isn't told by these entries alone what they come to, what `load_counted`, `with_entries` and `renew` cost.
 ghost use Rattle.std.specs.Prelude.{◌≡◌, ◌<◌, ◌≤◌, Some, length, IfOk, IfErr, IfSome, OnOk};
-ghost use Rattle.gv_load.specs.EntryEdits.{IsPartOf};
+ghost use Rattle.gv_reload.specs.EntryEdits.{IsPartOf};
 ghost use Rattle.gv_load.specs.Repository.{AreInPackageOrder};
 ghost use Rattle.gv_load.specs.declared.loading.Repo.{Repo};
 ghost use Rattle.gv_report.specs.Distinct.{ordered};
-ghost use Rattle.gv_checks.specs.Mentioned.{are_kept};
-ghost use Rattle.gv_checks.specs.Renewal.{AreOfBefore};
+ghost use Rattle.gv_renew.specs.Mentioned.{other_bodies};
+ghost use Rattle.gv_renew.specs.Renewal.{AreOfBefore};
 ghost use Rattle.gv_session.specs.Due.{new_paths};
 ghost use Rattle.gv_session.specs.Judging.{IsAgain, IsAll, IsAnew, IsJudgedFor, IsRefusedFor, outset, seen_by};
 ghost use Rattle.gv_session.specs.Session.{CauseFor, IsLast, JudgeCause};
@@ -20,9 +20,11 @@ use crate::small::small_edits;
 use crate::{Last, SessionFault};
 use gv_base::{Ledger, Steps, Tree};
 use gv_cert::Known;
-use gv_checks::{Judged, Mentioned, judge, renew};
+use gv_checks::{Judged, judge};
 use gv_edits::Edits;
-use gv_load::{Changed, EntryEdits, Loaded, Repo, Reread, entries_law, with_entries};
+use gv_load::{Loaded, Repo};
+use gv_reload::{Changed, EntryEdits, Reread, entries_law, with_entries};
+use gv_renew::{Mentioned, renew};
 use gv_report::{Options, Reports, ordered_law};
 use std::alloc::Global;
 
@@ -225,7 +227,7 @@ fn judge_again<L: Ledger>(
 ) -> Result<Last, SessionFault>
     requires bodies { length repo.bodies ≡ length repo.pkgs }
     requires order { AreInPackageOrder repo.pkgs }
-    requires kept { kept ≡ are_kept entries.now repo }
+    requires kept { kept ≡ other_bodies entries.now repo }
     requires before { ordered before ≡ before }
     ensures judged { (whole : Repo) → IsPartOf entries.now repo whole → AreOfBefore options.now entries.now whole before
         → IfOk result (IsAgain options.now entries.now repo whole found edits.now steps.old steps.new) }

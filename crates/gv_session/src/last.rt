@@ -1,7 +1,7 @@
 //! What a report leaves for the next one.
 
-use gv_checks::Mentioned;
 use gv_load::Repo;
+use gv_renew::Mentioned;
 use gv_report::Reports;
 
 /// What a report leaves for the next one.
@@ -15,6 +15,6 @@ pub struct Last {
     pub found: u64,
     /// The reports of its scan, in order.
     pub reports: Reports,
-    /// Of each package of the repository the numbers of the names that its classes mention.
+    /// The names that the repository's packages mention.
     pub mentioned: Mentioned,
 }

@@ -4,16 +4,17 @@
 ghost use Rattle.std.specs.Prelude.{◌≡◌, ◌≤◌, true, length, IfOk, IfErr, OnOk};
 ghost use Rattle.std.specs.List.{list_all};
 ghost use Rattle.gv_edits.specs.Edits.{edited_told};
-ghost use Rattle.gv_load.specs.EntryEdits.{AreClassless, is_entry};
+ghost use Rattle.gv_load.specs.Repository.{AreClassless, AreInPackageOrder};
+ghost use Rattle.gv_reload.specs.EntryEdits.{is_entry};
 ghost use Rattle.gv_load.specs.Loading.{LoadCause};
-ghost use Rattle.gv_load.specs.Rereading.{IsReread, RereadCause};
-ghost use Rattle.gv_load.specs.Repository.{AreInPackageOrder};
+ghost use Rattle.gv_reload.specs.Rereading.{IsReread, RereadCause};
 ghost use Rattle.gv_report.specs.Emitted.{emitted};
 ghost use Rattle.gv_session.specs.Session.{IsFound, IsLoaded};
 
 use gv_base::{NoMemory, Text, Tree};
 use gv_edits::{EditedTree, Edits};
-use gv_load::{EntryEdits, LoadFault, Loaded, Repo, Reread, load_counted, reread_entries};
+use gv_load::{LoadFault, Loaded, Repo, load_counted};
+use gv_reload::{EntryEdits, Reread, reread_entries};
 use gv_report::{Emitter, Options, Report, Reports, selected};
 use std::alloc::Global;
 

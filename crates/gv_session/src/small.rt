@@ -2,17 +2,18 @@
 //! against the categories.
 ghost use Rattle.std.specs.Prelude.{◌≡◌, ◌∷◌, [], ◌++◌, true, false, not, drop, map, IfOk, OnOk};
 ghost use Rattle.std.specs.List.{list_all, list_any};
-ghost use Rattle.gv_load.specs.EntryEdits.{is_in_metadata};
+ghost use Rattle.gv_reload.specs.EntryEdits.{is_in_metadata};
 ghost use Rattle.gv_session.specs.Due.{is_small, new_paths};
 ghost use Rattle.gv_session.specs.Small.{AreSmall};
 
 use gv_base::{NoMemory, Text, Texts};
 use gv_edits::Edits;
-use gv_load::{EntryEdits, Repo, is_entry, is_in_metadata};
+use gv_load::Repo;
+use gv_reload::{EntryEdits, is_entry, is_in_metadata};
 use std::alloc::Global;
 
 /// The paths of the edits behind so many, where all of these are small.
-#[tactic(auto, using(crate::proofs::SmallLemmas::none_yet, crate::proofs::SmallLemmas::one_more, crate::proofs::SmallLemmas::one_large, crate::proofs::SmallLemmas::all_small))]
+#[tactic(auto, using(crate::proofs::SmallLemmas::none_yet, crate::proofs::SmallLemmas::one_more, crate::proofs::SmallLemmas::one_large, crate::proofs::SmallLemmas::all_small, crate::proofs::SmallLemmas::not_there))]
 pub(crate) fn small_edits(
     alloc: Global,
     repo: &Repo,
@@ -25,7 +26,7 @@ pub(crate) fn small_edits(
     let mut entries = EntryEdits::new(alloc);
     for place in seen..edits.len() {
         let Some(path) = edits.path(place) else {
-            return Err(NoMemory);
+            unreachable!()
         };
         if !is_small(repo, apart, path)? {
             return Ok(None);

@@ -1,4 +1,6 @@
 -- A list of sets of k numbers, none of which contains an earlier one, has at most 2 ^ k members.
+-- The empty set could be put behind the kept ones (`apart_end`), so where N sets are kept, 2 ^ k is more than N
+-- (`kept_few`).
 use Rattle.std.proofs.Common.{◌≡◌, inl, inr, ℕ, zero, suc, ◌+◌, ◌^◌, ◌<◌, ◌≤◌, Bool, true, false, cond, nat_eq, List, [], ◌∷◌, ◌++◌, length, refl, subst, length-append, arith}
 use Rattle.std.specs.List.{AllByRecursion}
 use Rattle.std.proofs.lemmas.Grind.{common_steps}

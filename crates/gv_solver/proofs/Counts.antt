@@ -1,4 +1,7 @@
 -- The clause of an implication point has one literal of the conflict's level.
+-- Until the point is found, the number that is kept is that of the marked literals of the level that were not met yet,
+-- and isn't 0 (`IsCounted` in `specs/LevelCounts`; `count_skips`, `count_adds`, `count_takes`). Levels don't fall along
+-- the entries and a decision is the first of its level, so the last of these literals is met before the level ends.
 use Rattle.std.proofs.Common.{◌≡◌, ◌≢◌, ◌⊎◌, inl, inr, ℕ, zero, suc, ◌+◌, ◌-◌, ◌*◌, ◌/◌, ◌%◌, ◌<◌, ◌≤◌, ◌^◌, Bool, true, false, cond, ◌&&◌, nat_eq, Option, Some, None, List, [], ◌∷◌, ◌++◌, length, take, get_or, add-one, refl, sym, ap, subst, ◌∙◌, arith}
 use Rattle.std.specs.Prelude.{Result, OnOk, slice_get, slice_set, replicate}
 use Rattle.std.specs.List.{AllByRecursion}
@@ -20,7 +23,7 @@ use Rattle.gv_trail.specs.Derived.{HasReason, IsReason, IsDerived, IsTrail}
 use Rattle.gv_trail.specs.Entries.{Entry, State, assignment, lits_of, made_true, reason_of, level_of, level_after, AreLevels}
 use Rattle.gv_trail.specs.Propagation.{IsFalseAt}
 use Rattle.gv_trail.specs.Watches.{IsIn}
-use Rattle.gv_solver.proofs.Core.{none_true, set_here, set_keeps, opposite_twice}
+use Rattle.gv_logic.specs.Opposites.{none_true, set_here, set_keeps, opposite_twice}
 use Rattle.gv_solver.proofs.Derive.{below_made}
 use Rattle.gv_solver.proofs.Grow.{long}
 use Rattle.gv_solver.proofs.Lessons.{map_ok}

@@ -1,4 +1,7 @@
 -- The way down.
+-- A new set is among the decisions, and these never have all members of an earlier set (`free_append`): the last of
+-- them was decided after a complete propagation, where that set's clause would have been unit. For a clause that came
+-- since, see `Retreat`.
 use Rattle.std.proofs.Common.{◌≡◌, ◌⊎◌, inl, inr, ℕ, ◌+◌, ◌*◌, ◌/◌, ◌≤◌, Bool, true, false, Option, Some, None, List, [], ◌∷◌, ◌++◌, refl, sym, ap, subst, ◌∙◌, arith}
 use Rattle.std.specs.Prelude.{slice_get, slice_set, replicate}
 use Rattle.std.specs.List.{AllByRecursion}
@@ -16,7 +19,8 @@ use Rattle.gv_trail.specs.Derived.{IsDerived, IsTrail}
 use Rattle.gv_trail.specs.Propagation.{AreForced}
 use Rattle.gv_trail.specs.Entries.{Entry, State, assignment, made_true}
 use Rattle.gv_trail.specs.declared.propagation.Propagation.{Propagation}
-use Rattle.gv_solver.proofs.Core.{set_here, unit_from, quiet_at, opposite_even}
+use Rattle.gv_logic.specs.Opposites.{set_here, opposite_even}
+use Rattle.gv_solver.proofs.Core.{unit_from, quiet_at}
 use Rattle.gv_solver.proofs.Derive.{below_made}
 
 half : (i : ℕ) → (2 * i + 1) / 2 ≡ i

@@ -1,4 +1,5 @@
 -- Sets with a member left out.
+-- An open set stays open when members are taken away, so in the end each member is needed (`tight_less`, `tight_more`).
 use Rattle.std.proofs.Common.{◌≡◌, inl, inr, ℕ, zero, suc, ◌+◌, ◌^◌, ◌<◌, ◌≤◌, Bool, List, [], ◌∷◌, length, get_or, refl, ap, ◌∙◌, arith}
 use Rattle.std.specs.List.{AllByRecursion, remove, insert}
 use Rattle.std.proofs.lemmas.Bool.{cases_lt}

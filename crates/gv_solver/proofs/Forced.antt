@@ -1,4 +1,6 @@
 -- The steps that prove bits least.
+-- An input that is on rests on decisions below it alone, since it was undecided at each of them or assigned before; so
+-- with these off it clashes (`least_clash`).
 use Rattle.std.proofs.Common.{◌≡◌, inl, inr, ℕ, zero, suc, ◌+◌, ◌*◌, ◌/◌, ◌<◌, Bool, true, false, cond, Option, Some, None, List, [], ◌∷◌, ◌++◌, length, take, get_or, refl, sym, ap, subst, ◌∙◌, append_assoc, append-nil, length-append, arith}
 use Rattle.std.specs.Prelude.{slice_get, slice_set, replicate}
 use Rattle.std.proofs.lemmas.Bool.{cases_lt}
@@ -14,7 +16,8 @@ use Rattle.gv_solver.specs.Proving.{Proves}
 use Rattle.gv_solver.specs.Search.{IsAssigned, IsOrdered}
 use Rattle.gv_trail.specs.Derived.{IsDerived, HasReason}
 use Rattle.gv_trail.specs.Entries.{Entry, State, assignment, made_true}
-use Rattle.gv_solver.proofs.Core.{below_set, set_below, set_here, proper_none, below_none, is_off, opposite_even}
+use Rattle.gv_logic.specs.Opposites.{set_here, proper_none, opposite_even}
+use Rattle.gv_solver.proofs.Core.{below_set, set_below, below_none, is_off}
 use Rattle.gv_solver.proofs.Derive.{below_made, proper_made, next_true, has_off}
 use Rattle.gv_solver.proofs.Drop.{rising_from}
 use Rattle.gv_solver.proofs.Down.{rising_append, rising_more}

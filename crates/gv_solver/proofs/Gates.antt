@@ -1,4 +1,6 @@
 -- From clauses to gates.
+-- The laws of the encoding, of steps and of least bits from the crates below (`Laws` in `Backing`) say what a log is
+-- worth for gates; so what was found of the clauses is an answer about the gates (`answers`).
 use Rattle.std.proofs.Common.{◌≡◌, inl, inr, ℕ, ◌+◌, ◌*◌, ◌/◌, ◌%◌, ◌<◌, Bool, true, false, ◌||◌, List, [], ◌∷◌, ◌++◌, length, get_or, refl, sym, ap, ◌∙◌, arith}
 use Rattle.std.specs.List.{AllByRecursion}
 use Rattle.gv_logic.specs.Backed.{BacksNone, BacksBits}

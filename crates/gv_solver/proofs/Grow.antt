@@ -14,7 +14,8 @@ use Rattle.gv_trail.specs.Propagation.{Tells, AreForced, Propagates}
 use Rattle.gv_solver.specs.Marks.{Below}
 use Rattle.gv_solver.specs.Clash.{AreAmong}
 use Rattle.gv_solver.specs.Puts.{Grows, Settles, Rewinds}
-use Rattle.gv_solver.proofs.Core.{below_refl, below_trans, below_set, set_here}
+use Rattle.gv_logic.specs.Opposites.{set_here}
+use Rattle.gv_solver.proofs.Core.{below_refl, below_trans, below_set}
 use Rattle.gv_solver.proofs.Derive.{below_made}
 
 pub made_cat : (on : List Bool) (es fs : List Entry) → made_true on (es ++ fs) ≡ made_true (made_true on es) fs

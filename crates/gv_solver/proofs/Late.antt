@@ -1,4 +1,6 @@
 -- A clause that is false became so at the present level.
+-- That comes from the way down, where no clause was false before what was assigned at that level (`Began` in
+-- `specs/Search`, `late_of`).
 use Rattle.std.proofs.Common.{◌≡◌, inl, inr, ℕ, zero, suc, ◌+◌, ◌*◌, ◌<◌, Bool, true, false, ◌&&◌, Some, None, List, [], ◌∷◌, ◌++◌, refl, sym, ap, subst, ◌∙◌, append_assoc}
 use Rattle.std.specs.Prelude.{slice_get, slice_set, replicate}
 use Rattle.gv_logic.specs.Formulas.{Formula}
@@ -11,7 +13,7 @@ use Rattle.gv_trail.specs.declared.propagation.Propagation.TheVariants.{Fixed, C
 use Rattle.gv_trail.specs.Entries.{Entry, State, assignment, made_true}
 use Rattle.gv_trail.specs.Propagation.{AreForced, IsFalseAt}
 use Rattle.gv_trail.specs.Watches.{IsIn}
-use Rattle.gv_solver.proofs.Core.{opposite_twice}
+use Rattle.gv_logic.specs.Opposites.{opposite_twice}
 use Rattle.gv_solver.proofs.Counts.{entry_of}
 use Rattle.gv_solver.proofs.Grow.{made_cat}
 

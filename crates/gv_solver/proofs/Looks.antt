@@ -4,7 +4,7 @@ use Rattle.gv_logic.specs.Literals.{opposite}
 use Rattle.gv_logic.specs.Partial.{is_true}
 use Rattle.gv_trail.specs.Entries.{value_of}
 use Rattle.gv_solver.specs.Search.{IsAssigned}
-use Rattle.gv_solver.proofs.Core.{opposite_odd}
+use Rattle.gv_logic.specs.Opposites.{opposite_odd}
 
 look_is : (on : List Bool) (l : ℕ) (b : Bool) → value_of on l ≡ Some b → is_true on (cond b l (opposite l)) ≡ true
 look_is on l b v = by (is_true on l) refl (is_true on (opposite l)) refl b v

@@ -10,9 +10,10 @@ use Rattle.gv_logic.specs.Literals.{opposite, lit_true, clause_true}
 use Rattle.gv_logic.specs.Partial.{is_true, Quiet, AllQuiet, IsProper}
 use Rattle.gv_solver.specs.Found.{bits_to}
 use Rattle.gv_solver.specs.Search.{IsAssigned}
-use Rattle.gv_solver.proofs.Core.{quiet_true, opposite_twice, opposite_even, opposite_odd}
+use Rattle.gv_solver.proofs.Core.{quiet_true}
 use Rattle.gv_solver.proofs.Forced.{get_bits, length-bits}
-use Rattle.gv_solver.proofs.Truth.{lit_opposite, or_false, and_true, values_long, lit_even, lit_odd, front_lit, even_or_odd, not_true_is, true_not}
+use Rattle.gv_logic.specs.Opposites.{and_true, lit_opposite, opposite_even, opposite_odd, opposite_twice, or_false}
+use Rattle.gv_solver.proofs.Truth.{values_long, lit_even, lit_odd, front_lit, even_or_odd, not_true_is, true_not}
 
 -- each literal that is true by the values is true
 pub record Knows (on vals : List Bool) : Type 0 where

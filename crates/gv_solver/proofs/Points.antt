@@ -1,4 +1,10 @@
 -- The step of an implication point follows.
+-- At each place on the way back from a conflict, the reasons that were taken refute every assignment of literals of the
+-- trail that makes the clause false, has the marked literals that were not met yet, and of the others behind none
+-- (`IsBack` in `specs/Point`). It stays so where a literal isn't marked (`back_skips`), where it goes into the clause
+-- (`back_adds`), and where its reason is taken (`back_takes`): a reason's other literals stand before its own, so they
+-- weren't met yet, and they are marked; so it is unit there. At the front of the trail only the clause is left. That
+-- holds whichever marked literals go into the clause in place of their reasons, so the proof asks nothing of levels.
 use Rattle.std.proofs.Common.{◌≡◌, ◌⊎◌, inl, inr, ℕ, zero, suc, ◌+◌, ◌-◌, ◌*◌, ◌<◌, ◌%◌, Bool, true, false, cond, ◌&&◌, not, nat_eq, nat_lt, Option, Some, None, List, [], ◌∷◌, ◌++◌, length, take, drop, get_or, add-one, append_assoc, take-suc, refl, sym, ap, subst, ◌∙◌, arith}
 use Rattle.std.specs.Prelude.{Result, OnOk, slice_get, slice_set, replicate}
 use Rattle.std.specs.List.{AllByRecursion}
@@ -20,7 +26,8 @@ use Rattle.gv_trail.specs.Derived.{HasReason, IsReason, IsNext, IsDerived, IsTra
 use Rattle.gv_trail.specs.Entries.{Entry, State, assignment, lits_of, made_true, reason_of}
 use Rattle.gv_trail.specs.Propagation.{IsFalseAt}
 use Rattle.gv_trail.specs.Watches.{IsIn}
-use Rattle.gv_solver.proofs.Core.{below_trans, below_set, below_none, none_true, set_is, set_here, set_below, opposite_twice, unit_from}
+use Rattle.gv_logic.specs.Opposites.{none_true, set_is, set_here, opposite_twice}
+use Rattle.gv_solver.proofs.Core.{below_trans, below_set, below_none, set_below, unit_from}
 use Rattle.gv_solver.proofs.Derive.{below_made, refuted_more, refuted_last}
 use Rattle.gv_solver.proofs.Grow.{long, rest_at}
 use Rattle.gv_solver.proofs.Lessons.{map_ok}

@@ -9,7 +9,7 @@ use Rattle.gv_trail.specs.Derived.{IsDerived}
 use Rattle.gv_solver.specs.Clash.{Derived}
 use Rattle.gv_solver.specs.Replay.{replay, replay_by}
 use Rattle.gv_solver.specs.Resting.{needed, needed_by, rests, rests_by, against_clause, reasons, rests_on}
-use Rattle.gv_solver.proofs.Core.{set_here, set_keeps}
+use Rattle.gv_logic.specs.Opposites.{set_here, set_keeps}
 
 other : (a b : ℕ) → (a ≡ b → ⊥) → nat_eq a b ≡ false
 other a b n = by (nat_eq a b) refl

@@ -1,4 +1,7 @@
 -- A search that goes on from the level below a decision.
+-- In front of a decision no clause is false (`opened`), though one that was attached since may be unit. The point's
+-- clause has a literal of the conflict's level and the set's clause that of the decision, so neither is false there. So
+-- no set whose clause came since is wholly decided, and the search goes on over more clauses (`search_more`).
 use Rattle.std.proofs.Common.{◌≡◌, inl, inr, ℕ, zero, suc, ◌+◌, ◌-◌, ◌*◌, ◌/◌, ◌<◌, ◌≤◌, Bool, true, false, ◌&&◌, cond, nat_eq, nat_le, Option, Some, None, List, [], ◌∷◌, ◌++◌, length, get_or, refl, sym, ap, subst, ◌∙◌, arith}
 use Rattle.std.specs.Prelude.{IfSome, slice_set, replicate}
 use Rattle.std.proofs.lemmas.Grind.{common_steps}
@@ -15,7 +18,8 @@ use Rattle.gv_solver.specs.Search.{IsLeast, IsOrdered, IsSearch, IsSearched, Rea
 use Rattle.gv_trail.specs.Derived.{IsDerived, IsTrail}
 use Rattle.gv_trail.specs.Entries.{Entry, State, assignment, made_true, front_to, level_of, level_after, AreLevels}
 use Rattle.gv_trail.specs.Watches.{IsIn}
-use Rattle.gv_solver.proofs.Core.{below_refl, set_here, none_true, all_false_more, opposite_even, opposite_odd}
+use Rattle.gv_logic.specs.Opposites.{set_here, none_true, opposite_even, opposite_odd}
+use Rattle.gv_solver.proofs.Core.{below_refl, all_false_more}
 use Rattle.gv_solver.proofs.Counts.{entry_of, same_variable, has_at, all_has}
 use Rattle.gv_solver.proofs.Derive.{below_made}
 use Rattle.gv_solver.proofs.Down.{decided_off}

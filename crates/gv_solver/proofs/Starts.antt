@@ -1,4 +1,6 @@
 -- The step of a set that clashes follows.
+-- It follows since the trail's reasons refute its start (`clash_follows`). So the steps of learned sets and those that
+-- prove bits least are made by one function (`refute`).
 use Rattle.std.proofs.Common.{◌≡◌, inl, inr, ℕ, zero, suc, ◌+◌, ◌*◌, ◌<◌, ◌≤◌, Bool, true, false, nat_lt, Some, List, [], ◌∷◌, length, get_or, refl, sym, ap, subst, ◌∙◌, arith}
 use Rattle.std.specs.Prelude.{slice_set, replicate}
 use Rattle.std.proofs.Math.ListN.{length-set}
@@ -12,7 +14,8 @@ use Rattle.gv_solver.specs.Marks.{marked, Below}
 use Rattle.gv_solver.specs.Replay.{replay, replay_by}
 use Rattle.gv_solver.specs.Resting.{reasons}
 use Rattle.gv_trail.specs.Entries.{State, assignment, lits_of}
-use Rattle.gv_solver.proofs.Core.{below_refl, below_trans, below_set, below_none, set_is, set_here, proper_set, proper_none, opposite_even, opposite_odd}
+use Rattle.gv_logic.specs.Opposites.{set_is, set_here, proper_set, proper_none, opposite_even, opposite_odd}
+use Rattle.gv_solver.proofs.Core.{below_refl, below_trans, below_set, below_none}
 use Rattle.gv_solver.proofs.Reasons.{replay_same}
 use Rattle.gv_solver.proofs.Derive.{replay_refutes, among_true, has_off, Ends}
 

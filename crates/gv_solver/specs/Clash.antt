@@ -1,4 +1,7 @@
 -- What a trail shows of a set: words of private functions.
+-- What is open (`IsOpen`) and what clashes (`Clashes`) is all that the parts of the solver tell each other: a set
+-- clashes where no partial assignment has its inputs off and leaves no clause false or unit. It is found to where
+-- propagation from level 0 with its inputs off ends in a false clause, or turns a member on (`IsClash`).
 use Rattle.std.specs.Prelude.{◌≡◌, ◌⊎◌, ℕ, ◌+◌, ◌*◌, true, false, Option, Some, None, List, [], ◌∷◌, ◌/◌, replicate}
 use Rattle.std.specs.List.{AllByRecursion}
 use Rattle.gv_logic.specs.Kept.{IsOpen, IsTight, IsRising}

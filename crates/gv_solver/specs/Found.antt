@@ -1,4 +1,7 @@
 -- What the search over clauses finds: words of private functions, from which `solve` goes to the gates.
+-- Most searches end with the first way down: the bits are found, or a clause is false at level 0. So the clauses are
+-- copied, and a second trail for the probes is there, only behind a conflict above it (`learn`). The first way down is
+-- then taken once more, and its trail is that of the probes. Each further clause is attached to both.
 use Rattle.std.specs.Prelude.{◌≡◌, ℕ, zero, suc, ◌*◌, ◌<◌, Bool, List, [], ◌∷◌, ◌++◌, length}
 use Rattle.std.specs.List.{AllByRecursion}
 use Rattle.gv_logic.specs.Formulas.{Formula}

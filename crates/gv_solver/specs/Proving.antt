@@ -1,4 +1,6 @@
 -- The steps that prove bits least: words of private functions.
+-- Where all inputs are assigned and no clause is false or unit, the bits are the least ones. For each input that is on
+-- a step is added which says that it or a lower one that is off has to be on (`prove_least`).
 use Rattle.std.specs.Prelude.{◌≡◌, ℕ, ◌+◌, ◌<◌, ◌≤◌, Bool, true, false, List, ◌++◌, length, slice_index_or}
 use Rattle.gv_logic.specs.Formulas.{Formula}
 use Rattle.gv_solver.specs.Clash.{Clashes}

@@ -1,4 +1,10 @@
 -- One round of the solver: words of private functions.
+-- Where a clause is false, the set of the decisions that it rests on is taken (`resting`), and in rising order each
+-- member is dropped without which the others still clash (`drop_members`). Then the clause of the conflict's first
+-- implication point is a step and is attached (`first_point`, found before the members were dropped). Where nothing is
+-- left of the set, the empty clause is a step and the clauses are refuted. Else the set is kept, its clause is a step
+-- and is attached, and the way down goes on from the level below that of the set's last decision (`retreat`). Where a
+-- further set would be kept past the budget, the budget is spent.
 use Rattle.std.specs.Prelude.{◌≡◌, ℕ, ◌+◌, ◌<◌, ◌≤◌, List, [], ◌∷◌, ◌++◌, length}
 use Rattle.gv_logic.specs.Formulas.{Formula}
 use Rattle.gv_logic.specs.Logs.{Step, IsValid, ProvesNone, set_clause}

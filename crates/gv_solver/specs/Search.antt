@@ -1,4 +1,6 @@
 -- What holds on the way down, with the least undecided input decided at each level: words of private functions.
+-- The least undecided input is decided off after each complete propagation (`descend`), until a clause is false or all
+-- inputs are assigned.
 use Rattle.std.specs.Prelude.{◌≡◌, ◌⊎◌, ℕ, ◌+◌, ◌*◌, ◌/◌, ◌<◌, ◌≤◌, ◌^◌, Bool, true, false, Some, None, List, [], ◌∷◌, ◌++◌, slice_get, slice_set, replicate}
 use Rattle.gv_logic.specs.Formulas.{Formula}
 use Rattle.gv_logic.specs.Kept.{IsWithin, IsRising}

@@ -1,4 +1,7 @@
 -- What a solver has learned: words of private functions.
+-- The rounds keep one record (`IsWork`): the clauses are those that were given and those of the log's steps; the log is
+-- valid; the clause of each set is a step's; each set is kept over the clauses and the sets before it. Beside it each
+-- set takes at most two steps of the log, and the bound on the log falls out of that.
 use Rattle.std.specs.Prelude.{◌≡◌, ℕ, ◌+◌, ◌*◌, ◌<◌, ◌≤◌, Bool, true, false, List, [], ◌∷◌, ◌++◌, length}
 use Rattle.std.specs.List.{AllByRecursion}
 use Rattle.gv_logic.specs.Formulas.{Formula}

@@ -46,7 +46,7 @@ pub fn solve<L: Ledger>(
 }
 
 // The least bits of the inputs under which no clause is false or unit, a refutation, or as many
-// kept sets as the budget allows. Most questions are answered by the first way down, and need no
+// kept sets as the budget allows. Most queries are answered by the first way down, and need no
 // copy of the clauses.
 fn search(alloc: Global, clauses: &Clauses, inputs: u32, budget: u32) -> Result<Answer, NoMemory>
     requires few { clauses.now.variables ≤ 2 ^ 30 }

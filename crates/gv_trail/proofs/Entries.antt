@@ -10,7 +10,8 @@ use Rattle.gv_trail.specs.declared.cause.Cause.{Cause}
 use Rattle.gv_trail.specs.Cause.{cause_at, entry_of, entries_of}
 use Rattle.gv_trail.specs.Entries.{Entry, made_true, lits_of, reason_of, level_of, value_of}
 use Rattle.gv_trail.specs.Marks.{AreFresh}
-use Rattle.gv_trail.proofs.Proper.{same_variable, set_is, set_keeps, set_here, no_, none_true, same_half}
+use Rattle.gv_logic.specs.Opposites.{same_variable, set_is, set_keeps, set_here, none_true, same_half}
+use Rattle.gv_trail.proofs.Proper.{no_}
 
 pub lits_are : (causes : List Cause) (lits : List ℕ) → lits ≡ lits_of (entries_of causes lits)
 lits_are causes [] = refl

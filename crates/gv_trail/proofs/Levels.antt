@@ -1,4 +1,5 @@
 -- The levels of the entries.
+-- There are at most as many levels as entries (`levels-most`), so `decide` has no condition on them.
 use Rattle.std.proofs.Common.{◌≡◌, ℕ, ◌+◌, ◌≤◌, ◌<◌, Bool, true, false, List, [], ◌∷◌, ◌++◌, length, refl, sym, ap, ◌∙◌, cond, nat_le, Option, Some, None, arith}
 use Rattle.std.proofs.lemmas.Grind.{common_steps}
 use Rattle.gv_trail.specs.Entries.{Entry, front_to, AreLevels, level_after}

@@ -9,7 +9,7 @@ use Rattle.gv_trail.specs.declared.watches.Watch.{Watch}
 use Rattle.gv_trail.specs.declared.watches.Chain.{Chain}
 use Rattle.gv_trail.specs.Links.{Links, watch_at, chain_at, no_chain, linked, list_of, waiting_of, requeued, taken, added, idle, Once, IsLinked}
 use Rattle.gv_trail.proofs.Marks.{trues_set, trues-le, trues_replicate}
-use Rattle.gv_trail.proofs.Proper.{none_true}
+use Rattle.gv_logic.specs.Opposites.{none_true}
 
 abbrev no_watch : Watch
 no_watch = record { lit = 0; next = 0 }

@@ -1,4 +1,7 @@
 -- Marks of the literals that are true.
+-- There is room for every literal from the beginning: there are fewer entries than literals as long as one isn't true
+-- (`fresh_room`), so the push of a literal always succeeds, and nothing is to be said of memory where literals are
+-- assigned.
 use Rattle.std.proofs.Common.{◌≡◌, ℕ, zero, suc, ◌+◌, ◌<◌, ◌≤◌, Bool, true, false, List, [], ◌∷◌, ◌++◌, length, get_or, refl, ap, ◌∙◌, cond, nat_le, arith}
 use Rattle.std.proofs.lemmas.List.{length-replicate}
 use Rattle.std.specs.Prelude.{slice_set, replicate}

@@ -11,7 +11,7 @@ use Rattle.gv_trail.specs.declared.look.Look.TheVariants.{Quiet, AllFalse, OneLe
 use Rattle.gv_trail.specs.Entries.{Entry, made_true}
 use Rattle.gv_trail.specs.Marks.{AreFresh}
 use Rattle.gv_trail.specs.Look.{look_after}
-use Rattle.gv_trail.proofs.Proper.{proper_set}
+use Rattle.gv_logic.specs.Opposites.{proper_set}
 
 is_off : (on : List Bool) (l : ℕ) → IsProper on → is_true on l ≡ true → is_true on (opposite l) ≡ false
 is_off on l p o = by (is_true on (opposite l)) refl

@@ -18,7 +18,7 @@ abbrev pub rewatched : State → Watched → State
 rewatched s w = record { variables = s.variables; entries = s.entries; level = s.level; watched = w }
 
 abbrev pub relinked : State → Links → State
-relinked s links = rewatched s (record { links = links; apart = s.watched.apart; seen = s.watched.seen; sure = s.watched.sure })
+relinked s links = rewatched s (record { links = links; apart = s.watched.apart; seen = s.watched.seen; sure = s.watched.sure; lasting = s.watched.lasting })
 
 -- how many entries stand before the first that makes one of the two literals false
 abbrev pub open_both : State → Picked → ℕ
@@ -26,11 +26,11 @@ open_both s p = min (open_to p.first (lits_of s.entries)) (open_to p.second (lit
 
 -- two more watches; what makes one of their literals false has to be followed again
 abbrev pub watching : State → Picked → State
-watching s p = rewatched s (record { links = added (added s.watched.links p.first) p.second; apart = s.watched.apart; seen = min s.watched.seen (open_both s p); sure = min s.watched.sure (open_both s p) })
+watching s p = rewatched s (record { links = added (added s.watched.links p.first) p.second; apart = s.watched.apart; seen = min s.watched.seen (open_both s p); sure = min s.watched.sure (open_both s p); lasting = s.watched.lasting })
 
 -- one more clause without watches
 abbrev pub holding_apart : State → ℕ → State
-holding_apart s number = rewatched s (record { links = idle (idle s.watched.links); apart = s.watched.apart ++ number ∷ []; seen = s.watched.seen; sure = s.watched.sure })
+holding_apart s number = rewatched s (record { links = idle (idle s.watched.links); apart = s.watched.apart ++ number ∷ []; seen = s.watched.seen; sure = s.watched.sure; lasting = s.watched.lasting })
 
 abbrev pub entry_at : List Entry → ℕ → Entry
 entry_at es k = slice_index_or es k (record { lit = 0; reason = None; level = 0 })
@@ -42,7 +42,19 @@ sure_after s =
 
 -- the next entry was followed
 abbrev pub advanced : State → State
-advanced s = rewatched s (record { links = s.watched.links; apart = s.watched.apart; seen = s.watched.seen + 1; sure = sure_after s })
+advanced s = rewatched s (record { links = s.watched.links; apart = s.watched.apart; seen = s.watched.seen + 1; sure = sure_after s; lasting = s.watched.lasting })
+
+-- one more of the clauses that are held apart is passed over from now on
+abbrev pub passing : State → State
+passing s = rewatched s (record { links = s.watched.links; apart = s.watched.apart; seen = s.watched.seen; sure = s.watched.sure; lasting = s.watched.lasting + 1 })
+
+-- some more are
+pub record Passes (f : Formula) (old new : State) : Type 0 where
+  pub variables : new.variables ≡ old.variables
+  pub entries : new.entries ≡ old.entries
+  pub level : new.level ≡ old.level
+  pub seen : new.watched.seen ≡ old.watched.seen
+  pub over : IsTrail f new
 
 -- one more clause takes part
 pub record Holds (f : Formula) (number : ℕ) (old new : State) : Type 0 where
@@ -79,7 +91,7 @@ forced s lit other number = record {
   variables = s.variables;
   entries = s.entries ++ (record { lit = other; reason = Some number; level = s.level }) ∷ [];
   level = s.level;
-  watched = record { links = requeued s.watched.links lit; apart = s.watched.apart; seen = s.watched.seen; sure = s.watched.sure };
+  watched = record { links = requeued s.watched.links lit; apart = s.watched.apart; seen = s.watched.seen; sure = s.watched.sure; lasting = s.watched.lasting };
 }
 
 abbrev pub Forces : ℕ → ℕ → ℕ → State → State → Option ℕ → Type 0

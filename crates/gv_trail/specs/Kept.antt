@@ -11,7 +11,7 @@ state_of t = record {
   variables = length t.causes.items;
   entries = entries_of t.causes.items t.lits.items;
   level = t.level;
-  watched = record { links = links_of t.watches; apart = t.apart.items; seen = t.seen; sure = t.sure };
+  watched = record { links = links_of t.watches; apart = t.apart.items; seen = t.seen; sure = t.sure; lasting = t.lasting };
 }
 
 pub record IsKept (t : Inside) : Type 0 where

@@ -77,3 +77,4 @@ pub record Watched : Type 0 where
   pub apart : List ℕ
   pub seen : ℕ
   pub sure : ℕ
+  pub lasting : ℕ

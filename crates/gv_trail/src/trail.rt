@@ -9,8 +9,8 @@ ghost use Rattle.gv_trail.specs.Derived.{IsTrail, front};
 ghost use Rattle.gv_trail.specs.Links.{IsLinked, requeued, taken};
 ghost use Rattle.gv_trail.specs.Look.{open_other, open_to};
 ghost use Rattle.gv_trail.specs.Propagation.{Tells, Propagates};
-ghost use Rattle.gv_trail.specs.Watches.{lit_at};
-ghost use Rattle.gv_trail.specs.Follows.{relinked, watching, holding_apart, advanced, sure_after, entry_at, Waits, Holds, Looks, Forces, Drains, Follows, Goes, Settles, Sweeps};
+ghost use Rattle.gv_trail.specs.Watches.{HasLasting, lit_at};
+ghost use Rattle.gv_trail.specs.Follows.{relinked, watching, holding_apart, advanced, passing, sure_after, entry_at, Waits, Passes, Holds, Looks, Forces, Drains, Follows, Goes, Settles, Sweeps};
 
 use crate::Propagation;
 use crate::cause::{Cause, cause_of, take_back};
@@ -38,6 +38,8 @@ pub struct Trail {
     // how many literals were followed, and how many of these at their own level
     seen: usize,
     sure: usize,
+    // how many of the clauses that are held apart are true at level 0, for good
+    lasting: usize,
 }
 
 impl Model for Trail {
@@ -110,6 +112,7 @@ impl Trail {
                 }
                 continue 'rounds;
             }
+            self.pass_lasting(clauses);
             match self.sweep(clauses) {
                 Sweep::Nothing => return Propagation::Fixed,
                 Sweep::Falsified(clause) => return Propagation::Conflict { clause },
@@ -212,6 +215,7 @@ impl Trail {
             apart: Vec::new(alloc),
             seen: 0,
             sure: 0,
+            lasting: 0,
         })
     }
 
@@ -476,7 +480,41 @@ impl Trail {
         &self.apart
     }
 
-    // Goes once over the clauses that are held apart, and assigns what each asks for at its turn.
+    // Passes over the next of the clauses that are held apart, as long as they are true at level 0.
+    fn pass_lasting(&mut self, clauses: &Clauses)
+        requires { IsTrail clauses.now self.old }
+        ensures { Passes clauses.now self.old self.new }
+    {
+        while self.lasting < self.apart().len() {
+            match clauses.get(self.apart()[self.lasting]) {
+                Some(lits) if self.is_lasting(clauses, lits) => self.pass_one(),
+                _ => return,
+            }
+        }
+    }
+
+    // Whether one of the literals is true at level 0.
+    fn is_lasting(&self, clauses: &Clauses, lits: &[Lit]) -> bool
+        requires { IsTrail clauses.now self.now }
+        ensures { result ≡ true → HasLasting self.now.entries lits.now }
+    {
+        for lit in lits {
+            match self.level_of(*lit) {
+                Some(0) if self.is_on(*lit) => return true,
+                _ => {}
+            }
+        }
+        false
+    }
+
+    fn pass_one(&mut self)
+        requires { self.old.watched.lasting < length self.old.watched.apart }
+        ensures { self.new ≡ passing self.old }
+    {
+        self.lasting += 1;
+    }
+
+    // Goes once over the clauses that are held apart, but for those that are passed over, and assigns what each asks for at its turn.
     fn sweep(&mut self, clauses: &Clauses) -> Sweep
         requires { IsTrail clauses.now self.old }
         ensures goes { Goes clauses.now self.old self.new }
@@ -485,7 +523,7 @@ impl Trail {
     {
         clauses.formed_law();
         let mut assigned = false;
-        let mut at = 0;
+        let mut at = self.lasting;
         while at < self.apart().len() {
             let number = self.apart()[at];
             match self.settle(clauses, number) {

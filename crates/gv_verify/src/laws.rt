@@ -12,7 +12,7 @@ ghost use Rattle.gv_report.specs.declared.options.Options.{Options};
 ghost use Rattle.gv_verify.specs.Verifying.{MayAccept, Verifies};
 ghost use Rattle.gv_verify.specs.declared.verifying.VerifyFault.{VerifyFault};
 
-use gv_logic::circuit_law;
+use gv_checks::{certs_law, records_law};
 
 /// Where a repository was judged, whatever the records before, each answer to the text of its scan and the records of its
 /// certificates accepts it, with the number of queries, or finds no memory.
@@ -20,5 +20,6 @@ pub fn accepted_law()
     ensures { (o : Options) (r : Repo) (given : List KnownRecord) (before now : Counts) (j : Judged) → IsJudged o given r before now j
         → (answer : Result ℕ VerifyFault) → Verifies o j.certs r (scan_text o r) answer → MayAccept (length (queries o r)) answer }
 {
-    circuit_law();
+    records_law();
+    certs_law();
 }

@@ -1,5 +1,7 @@
 //! A report held against certificates.
-ghost use Rattle.std.specs.Prelude.{◌≡◌, IfOk};
+ghost use Rattle.std.specs.Prelude.{◌≡◌, length, IfOk};
+ghost use Rattle.gv_checks.specs.Certs.{CountsAtMost};
+ghost use Rattle.gv_checks.specs.Queries.{queries};
 ghost use Rattle.gv_report.specs.Emitted.{emitted};
 ghost use Rattle.gv_verify.specs.Verifying.{Hands, Verifies};
 
@@ -37,8 +39,8 @@ impl From<NoMemory> for VerifyFault {
 }
 
 /// The number of queries, where each of them has a backed record among the given ones and the report is the text of a
-/// scan. The queries are taken in their order: the first that is past a limit, or has no backed record, ends it. Each is
-/// lowered at most once, and none is solved.
+/// scan. The queries are taken in their order: the first that is past a limit, or has no backed record, ends it. Whatever it
+/// answers, no more are lowered than there are queries, and none is solved.
 #[tactic(auto, using(crate::proofs::VerifyLemmas::handed))]
 pub fn verify<L: Ledger>(
     alloc: Global,
@@ -49,6 +51,7 @@ pub fn verify<L: Ledger>(
     steps: &mut Steps<L>,
 ) -> Result<u32, VerifyFault>
     ensures verifies { Verifies options.now certs.now repo.now report.now result }
+    ensures few { CountsAtMost (length (queries options.now repo.now)) steps.old steps.new }
     ensures unsolved { steps.new.solve ≡ steps.old.solve }
 {
     selected_law();

@@ -4,3 +4,4 @@ pub mod NameMap
 mod NextPlaces
 mod Placed
 mod Levels
+mod Matched

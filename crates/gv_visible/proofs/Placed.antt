@@ -9,7 +9,7 @@ use Rattle.gv_facts.specs.declared.kinds.Level.{Level}
 use Rattle.gv_facts.specs.declared.pkg.Pkg.{Pkg}
 use Rattle.gv_facts.specs.declared.profile.Profile.{Profile}
 use Rattle.gv_facts.specs.Places.{is_pkg_of, places_from, places_of}
-use Rattle.gv_visible.specs.PkgIndex.{IsNamedAt}
+use Rattle.gv_visible.specs.NamedPkgs.{IsNamedAt}
 use Rattle.gv_visible.specs.VisiblePkgs.{if_shown, shown_at, shows}
 use Rattle.gv_visible.proofs.NextPlaces.{front_three}
 

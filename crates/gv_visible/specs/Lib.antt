@@ -1,9 +1,8 @@
 pub mod BitList
 pub mod ByName
 pub mod Candidates
-pub mod HeldIndex
 pub mod MaskIndex
-pub mod PkgIndex
+pub mod NamedPkgs
 pub mod PrivateWords
 pub mod StoredTest
 pub mod Tested

@@ -1,5 +1,5 @@
 //! Packages beside a stored test that is known to answer which are visible.
-ghost use Rattle.std.specs.Prelude.{◌≡◌, ◌+◌, [], ◌∷◌, Some, filter, map, nat_lt, slice_get, IfSome};
+ghost use Rattle.std.specs.Prelude.{◌≡◌, ◌+◌, [], ◌∷◌, Some, filter, map, nat_lt, slice_get, IfOk, IfSome};
 ghost use Rattle.std.specs.List.{filter_map, find};
 ghost use Rattle.std.specs.Option.{option_copied, option_map_or};
 ghost use Rattle.std.specs.List.Sorted.{IsPartitionedBy};
@@ -10,49 +10,22 @@ ghost use Rattle.gv_visible.specs.VisiblePkgs.{is_from, shown_at, shows};
 ghost use Rattle.gv_visible.specs.PrivateWords.{shows_at};
 ghost use Rattle.gv_visible.specs.StoredTest.{AnswersVisible};
 ghost use Rattle.gv_visible.specs.Candidates.{level_of, pkgs_of, profile_of, test_of};
-ghost use Rattle.gv_visible.specs.HeldIndex.{held};
 
 use crate::bit_list::BitList;
-use crate::pkg_index::PkgIndex;
 use crate::visible_pkgs::VisiblePkgs;
 use gv_atom::Atom;
+use gv_base::NoMemory;
 use gv_facts::{Level, Pkg, Pkgs, Profile, matches_pkg};
+use std::alloc::Global;
 use std::marker::Model;
-
-// An index that the candidates made, or one that was made for many of them.
-#[derive(Drop)]
-enum HeldIndex<'a> {
-    Own(PkgIndex<'a>),
-    Shared(&'a PkgIndex<'a>),
-}
-
-impl<'a> HeldIndex<'a> {
-    fn pkgs(&self) -> &'a Pkgs
-        ensures { result.now ≡ held self.now }
-    {
-        match self {
-            HeldIndex::Own(index) => index.pkgs(),
-            HeldIndex::Shared(index) => index.pkgs(),
-        }
-    }
-
-    fn at(&self, category: &[u8], name: &[u8]) -> &[u32]
-        ensures { result.now ≡ places_of (is_pkg_of category.now name.now) (held self.now) }
-    {
-        match self {
-            HeldIndex::Own(index) => index.at(category, name),
-            HeldIndex::Shared(index) => index.at(category, name),
-        }
-    }
-}
 
 /// Packages, the profile and the level at which they are looked at, and a test of packages.
 ///
 /// That the test may be asked of every package that is a value, and then answers whether the profile shows it at this
-/// level, is told by `new`, `over` and `among`, and every call that asks the test requires it.
+/// level, is told by `new` and `among`, and every call that asks the test requires it.
 #[derive(Drop)]
 pub struct Candidates<'a, F: Fn(&Pkg) -> bool> {
-    index: HeldIndex<'a>,
+    pkgs: &'a Pkgs,
     profile: &'a Profile,
     level: Level,
     test: F,
@@ -62,56 +35,38 @@ pub struct Candidates<'a, F: Fn(&Pkg) -> bool> {
 
 impl<'a, F: Fn(&Pkg) -> bool> Model for Candidates<'a, F> {
     ghost use Rattle.std.specs.Option.{option_map};
-    ghost use Rattle.gv_visible.specs.HeldIndex.{held};
     ghost use Rattle.gv_visible.specs.Tested.{AreKept};
     ghost use Rattle.gv_visible.specs.Candidates.{Candidates};
 
     ghost Value = { Candidates F };
 
-    ghost view = { λ c. record { pkgs = held c.index; profile = c.profile.now; level = c.level; test = c.test } };
+    ghost view = { λ c. record { pkgs = c.pkgs.now; profile = c.profile.now; level = c.level; test = c.test } };
 
-    ghost invariant = { λ c. AreKept (option_map (λ shown. shown.now) c.kept) c.profile.now c.level (held c.index) };
+    ghost invariant = { λ c. AreKept (option_map (λ shown. shown.now) c.kept) c.profile.now c.level c.pkgs.now };
 }
 
 impl<'a, F: Fn(&Pkg) -> bool> Candidates<'a, F> {
-    /// Candidates among the packages: O(1), without memory. The test answers `visible` for the profile and the level.
-    pub fn new(pkgs: &'a Pkgs, profile: &'a Profile, level: Level, test: F) -> Candidates<'a, F>
-        requires test { AnswersVisible (F.pre test) (F.post test) profile.now level }
-        ensures pkgs { pkgs_of result ≡ pkgs.now }
-        ensures profile { profile_of result ≡ profile.now }
-        ensures level { level_of result ≡ level }
-        ensures test { AnswersVisible (F.pre (test_of result)) (F.post (test_of result)) (profile_of result) (level_of result) }
-    {
-        Candidates {
-            index: HeldIndex::Own(PkgIndex::new(pkgs)),
-            profile,
-            level,
-            test,
-            kept: None,
-        }
-    }
-
-    /// Candidates among the packages of an index: O(1), without memory. The test answers `visible` for the profile and the
-    /// level.
-    pub fn over(
-        index: &'a PkgIndex<'a>,
+    /// Candidates among the packages: O(1), and it asks for no memory. The test answers `visible` for the profile and the level.
+    pub fn new(
+        _alloc: Global,
+        pkgs: &'a Pkgs,
         profile: &'a Profile,
         level: Level,
         test: F,
-    ) -> Candidates<'a, F>
+    ) -> Result<Candidates<'a, F>, NoMemory>
         requires test { AnswersVisible (F.pre test) (F.post test) profile.now level }
-        ensures pkgs { pkgs_of result ≡ index.now }
-        ensures profile { profile_of result ≡ profile.now }
-        ensures level { level_of result ≡ level }
-        ensures test { AnswersVisible (F.pre (test_of result)) (F.post (test_of result)) (profile_of result) (level_of result) }
+        ensures pkgs { IfOk result (λ candidates. pkgs_of candidates ≡ pkgs.now) }
+        ensures profile { IfOk result (λ candidates. profile_of candidates ≡ profile.now) }
+        ensures level { IfOk result (λ candidates. level_of candidates ≡ level) }
+        ensures test { IfOk result (λ candidates. AnswersVisible (F.pre (test_of candidates)) (F.post (test_of candidates)) (profile_of candidates) (level_of candidates)) }
     {
-        Candidates {
-            index: HeldIndex::Shared(index),
+        Ok(Candidates {
+            pkgs,
             profile,
             level,
             test,
             kept: None,
-        }
+        })
     }
 
     /// Candidates among packages of which is kept what the profile shows: O(1), without memory. The test, which answers the
@@ -124,7 +79,7 @@ impl<'a, F: Fn(&Pkg) -> bool> Candidates<'a, F> {
         ensures test { AnswersVisible (F.pre (test_of result)) (F.post (test_of result)) (profile_of result) (level_of result) }
     {
         Candidates {
-            index: HeldIndex::Shared(shown.index()),
+            pkgs: shown.pkgs(),
             profile: shown.profile(),
             level,
             test,
@@ -136,7 +91,7 @@ impl<'a, F: Fn(&Pkg) -> bool> Candidates<'a, F> {
     pub fn pkgs(&self) -> &'a Pkgs
         ensures { result.now ≡ pkgs_of self.now }
     {
-        self.index.pkgs()
+        self.pkgs
     }
 
     /// The profile whose masks and whose arch say what is visible.
@@ -156,7 +111,7 @@ impl<'a, F: Fn(&Pkg) -> bool> Candidates<'a, F> {
     fn at(&self, category: &[u8], name: &[u8]) -> &[u32]
         ensures { result.now ≡ places_of (is_pkg_of category.now name.now) (pkgs_of self.now) }
     {
-        self.index.at(category, name)
+        self.pkgs.places_of(category, name)
     }
 
     // What was answered before of the package at this place, if it was asked.

@@ -4,15 +4,14 @@
 //! package's keywords and, where these accept it, a look-up by hash, O(bytes of category and name), and the masks of its
 //! category and name, and take no memory.
 ghost use Rattle.std.specs.Prelude.{◌≡◌, IfOk};
-ghost use Rattle.gv_base.specs.Order.{has_text};
 ghost use Rattle.gv_facts.specs.Places.{is_mask_of, places_of};
-ghost use Rattle.gv_facts.specs.Visible.{is_masked, testing, visible};
+ghost use Rattle.gv_facts.specs.Visible.{is_masked, visible};
 ghost use Rattle.gv_facts.specs.declared.kinds.Level.TheVariants.{Stable, Testing};
 ghost use Rattle.gv_visible.specs.ByName.{HasPlaces};
 
 use crate::visibility::some_matches;
-use gv_base::{NoMemory, Texts};
-use gv_facts::{Level, Masks, Pkg, Profile, accepts, is_testing};
+use gv_base::NoMemory;
+use gv_facts::{Level, Masks, Pkg, Profile, accepts, has_testing};
 use indexmap::IndexMap;
 use std::alloc::Global;
 use std::marker::Model;
@@ -99,18 +98,6 @@ impl<'a> MaskIndex<'a> {
             testing,
         }
     }
-}
-
-// Whether one of the keywords is the arch with `~`.
-fn has_testing(keywords: &Texts, arch: &[u8]) -> bool
-    ensures { result ≡ has_text keywords.now (testing arch.now) }
-{
-    for keyword in keywords.items() {
-        if is_testing(arch, keyword.bytes()) {
-            return true;
-        }
-    }
-    false
 }
 
 // The places of the masks of each category and name.

@@ -15,13 +15,13 @@ pub fn visible(pkg: &Pkg, profile: &Profile, level: Level) -> bool
 }
 
 /// The level at which the profile judges the package: stable where its keywords have the arch, else testing where they
-/// have the arch with `~`. A masked package isn't judged.
+/// have the arch with `~`. A profile that accepts its arch with `~` judges both at testing. A masked package isn't judged.
 pub fn judged(pkg: &Pkg, profile: &Profile) -> Option<Level>
     ensures { result ≡ judged pkg.now profile.now }
 {
     if is_masked(pkg, &profile.masks) {
         None
-    } else if accepts(Level::Stable, profile.arch.bytes(), &pkg.keywords) {
+    } else if !profile.testing && accepts(Level::Stable, profile.arch.bytes(), &pkg.keywords) {
         Some(Level::Stable)
     } else if accepts(Level::Testing, profile.arch.bytes(), &pkg.keywords) {
         Some(Level::Testing)

@@ -2,17 +2,17 @@
 //!
 //! `new` costs an index of the masks and a test of each package, which tells of both levels, and keeps a bit for each level;
 //! the other calls cost O(1) and take no memory.
-ghost use Rattle.std.specs.Prelude.{◌≡◌, Some, slice_get, IfOk};
+ghost use Rattle.std.specs.Prelude.{◌≡◌, ◌&&◌, Some, not, slice_get, IfOk};
 ghost use Rattle.gv_facts.specs.Visible.{judged, visible};
+ghost use Rattle.gv_facts.specs.declared.kinds.Level.TheVariants.{Stable};
 ghost use Rattle.gv_facts.specs.declared.pkg.Pkg.{Pkg};
 ghost use Rattle.gv_visible.specs.Tested.{AreAllKept};
 ghost use Rattle.gv_visible.specs.VisiblePkgs.{are_visible};
 
 use crate::bit_list::BitList;
 use crate::mask_index::MaskIndex;
-use crate::pkg_index::PkgIndex;
 use gv_base::NoMemory;
-use gv_facts::{Level, Pkg, Profile};
+use gv_facts::{Level, Pkg, Pkgs, Profile};
 use std::alloc::Global;
 use std::marker::Model;
 
@@ -20,7 +20,7 @@ use std::marker::Model;
 /// each level.
 #[derive(Drop)]
 pub struct VisiblePkgs<'a> {
-    index: &'a PkgIndex<'a>,
+    pkgs: &'a Pkgs,
     profile: &'a Profile,
     stable: BitList,
     testing: BitList,
@@ -32,36 +32,35 @@ impl<'a> Model for VisiblePkgs<'a> {
 
     ghost Value = { VisiblePkgs };
 
-    ghost view = { λ v. record { pkgs = v.index.now; profile = v.profile.now } };
+    ghost view = { λ v. record { pkgs = v.pkgs.now; profile = v.profile.now } };
 
-    ghost invariant = { λ v. AreAllKept v.stable v.testing v.profile.now v.index.now };
+    ghost invariant = { λ v. AreAllKept v.stable v.testing v.profile.now v.pkgs.now };
 }
 
 impl<'a> VisiblePkgs<'a> {
     /// What the profile shows of the packages.
     pub fn new(
         alloc: Global,
-        index: &'a PkgIndex<'a>,
+        pkgs: &'a Pkgs,
         profile: &'a Profile,
     ) -> Result<VisiblePkgs<'a>, NoMemory>
-        ensures { IfOk result (λ shown. shown ≡ record { pkgs = index.now; profile = profile.now }) }
+        ensures { IfOk result (λ shown. shown ≡ record { pkgs = pkgs.now; profile = profile.now }) }
     {
         let masks = MaskIndex::new(alloc, profile)?;
-        let pkgs = index.pkgs().items();
-        let (stable, testing) = shown(alloc, pkgs, &masks)?;
+        let (stable, testing) = shown(alloc, pkgs.items(), &masks)?;
         Ok(VisiblePkgs {
-            index,
+            pkgs,
             profile,
             stable,
             testing,
         })
     }
 
-    /// The index of the packages.
-    pub fn index(&self) -> &'a PkgIndex<'a>
+    /// The packages.
+    pub fn pkgs(&self) -> &'a Pkgs
         ensures { result.now ≡ self.now.pkgs }
     {
-        self.index
+        self.pkgs
     }
 
     /// The profile by which it was asked what is visible, at both levels.
@@ -90,12 +89,19 @@ impl<'a> VisiblePkgs<'a> {
         }
     }
 
+    // Whether it is judged at stable.
+    fn is_for_stable(&self, number: u32) -> bool
+        ensures { (pkg : Pkg) → slice_get self.now.pkgs number ≡ Some pkg → result ≡ not self.now.profile.testing && visible pkg self.now.profile Stable }
+    {
+        !self.profile.testing && self.is_visible(number, Level::Stable)
+    }
+
     /// The level at which the package with this number is judged, if it is.
     #[tactic(auto, using(crate::proofs::Levels::stable_first, crate::proofs::Levels::testing_next, crate::proofs::Levels::neither))]
     pub fn judged(&self, number: u32) -> Option<Level>
         ensures { (pkg : Pkg) → slice_get self.now.pkgs number ≡ Some pkg → result ≡ judged pkg self.now.profile }
     {
-        if self.is_visible(number, Level::Stable) {
+        if self.is_for_stable(number) {
             return Some(Level::Stable);
         }
         if self.is_visible(number, Level::Testing) {

@@ -10,4 +10,4 @@ pub returns-in-Some : goal.returns-in-Some
 returns-in-Some c =
     on_ok c.add_required_key.result
     (required_some c.args.judged.now c.args.sites.now c.requires.sites c.in-Some.flags c.args.states.now c.clear.new.self.items c.add_required_key.new.key.items (search rules) c.requires.states (search rules))
-    c.add_required_key.ensures
+    c.add_required_key.ensures.ok

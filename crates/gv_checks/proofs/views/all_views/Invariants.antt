@@ -1,6 +1,6 @@
 use Rattle.std.proofs.Common.{◌≡◌, ◌++◌, drop, map}
-use Rattle.gv_checks.specs.Walks.{seen}
+use Rattle.gv_checks.specs.Seen.{seen}
 use Rattle.gv_checks.proofs.views.all_views.Given as goal
 
 abbrev pub invariant-loop-profile : goal.invariant-loop-profile
-invariant-loop-profile l = l.views.items ++ map (seen l.index) (drop l.profile-index l.profiles) ≡ map (seen l.index) l.profiles
+invariant-loop-profile l = l.views.items ++ map (seen l.pkgs) (drop l.profile-index l.profiles) ≡ map (seen l.pkgs) l.profiles

@@ -1,29 +1,31 @@
-use Rattle.std.proofs.Common.{rules, sym, ◌∙◌}
+use Rattle.std.proofs.Common.{◌+◌, drop, rules, subst, sym, ◌∙◌}
 use Rattle.gv_checks.specs.Context.{case_of}
-use Rattle.gv_checks.proofs.WalkLemmas.{class_end, class_err, class_next, class_passed}
-use Rattle.gv_checks.proofs.walking.judge_classes.Goals.{then-is_asked+in-Ok, else-is_asked}
+use Rattle.gv_checks.specs.Keys.{ArePartsOf}
+use Rattle.gv_checks.specs.Queries.{class_queries}
+use Rattle.gv_checks.proofs.GoLemmas.{go_end, go_err, go_next}
+use Rattle.gv_checks.proofs.WalkLemmas.{classes_here, classes_left}
 use Rattle.gv_checks.proofs.walking.judge_classes.Goals as goal
 
-pub returns-in-Err-clause-judges : goal.returns-in-Err-clause-judges
-returns-in-Err-clause-judges g c =
-    class_err c.args.options.now (case_of c.args.judged.now) c.args.classes.now _ c.loop-class.class-index (search rules) (search rules) c.args.budget c.args.given.now
-    c.args.progress.now c.loop-class.progress c.judge_query.new.progress c.args.steps.now c.loop-class.steps c.judge_query.new.steps c.loop-class.invariant.0 (sym c.is_asked.ensures ∙ c.if-is_asked.true) c.in-Err.fault c.in-Err.ensures.judges
+pub judge_class-requires-clause-parts : goal.judge_class-requires-clause-parts
+judge_class-requires-clause-parts g c = subst (ArePartsOf c.args.spot.now.judged c.args.spot.now.judged.profile.now c.args.spot.now.sites.now) (sym c.loop-class.invariant.required) c.requires.parts
+
+pub returns-in-Err-clause-goes : goal.returns-in-Err-clause-goes
+returns-in-Err-clause-goes g c =
+    go_err c.args.errand.now.asking.now (class_queries c.args.errand.now.walk.now.options c.args.classes.now (case_of c.args.spot.now.judged)) c.args.going.now c.loop-class.going c.judge_class.new.going c.args.steps.now c.loop-class.steps c.judge_class.new.steps
+    (class_queries c.args.errand.now.walk.now.options (drop c.loop-class.class-index c.args.classes.now) (case_of c.args.spot.now.judged)) _ (class_queries c.args.errand.now.walk.now.options (drop (c.loop-class.class-index + 1) c.args.classes.now) (case_of c.args.spot.now.judged)) c.in-Err.fault
+    (classes_here c.args.errand.now.walk.now.options (case_of c.args.spot.now.judged) c.args.classes.now _ c.loop-class.class-index (search rules) (search rules)) c.loop-class.invariant.way c.in-Err.ensures.goes
 
 pub loop-class-preserved : goal.loop-class-preserved
-loop-class-preserved g c =
-    elim c.if-is_asked.branch [
-      | then-is_asked+in-Ok w ↦ rw (w.progress-is, w.steps-is, w.shared-is) (
-        class_next c.args.options.now (case_of c.args.judged.now) c.args.classes.now _ c.loop-class.class-index (search rules) (search rules) c.args.budget c.args.given.now
-            c.args.progress.now c.loop-class.progress w.judge_query.new.progress c.args.steps.now c.loop-class.steps w.judge_query.new.steps c.loop-class.invariant.0 (sym c.is_asked.ensures ∙ w.if-is_asked.true) tt w.in-Ok.ensures.judges w.judge_query.ensures.unsolved,
-        w.in-Ok.ensures.shared,
-      )
-      | else-is_asked w ↦ rw (w.progress-is, w.steps-is, w.shared-is) (
-        class_passed c.args.options.now (case_of c.args.judged.now) c.args.classes.now _ c.loop-class.class-index (search rules) (search rules) c.args.budget c.args.given.now
-            c.args.progress.now c.loop-class.progress c.loop-class.progress c.args.steps.now c.loop-class.steps c.loop-class.steps c.loop-class.invariant.0 (sym c.is_asked.ensures ∙ w.if-is_asked.false),
-        c.loop-class.invariant.1,
-      )
-    ]
+loop-class-preserved g c = record {
+  way = go_next c.args.errand.now.asking.now (class_queries c.args.errand.now.walk.now.options c.args.classes.now (case_of c.args.spot.now.judged)) c.args.going.now c.loop-class.going c.judge_class.new.going c.args.steps.now c.loop-class.steps c.judge_class.new.steps
+      (class_queries c.args.errand.now.walk.now.options (drop c.loop-class.class-index c.args.classes.now) (case_of c.args.spot.now.judged)) _ (class_queries c.args.errand.now.walk.now.options (drop (c.loop-class.class-index + 1) c.args.classes.now) (case_of c.args.spot.now.judged))
+      (classes_here c.args.errand.now.walk.now.options (case_of c.args.spot.now.judged) c.args.classes.now _ c.loop-class.class-index (search rules) (search rules)) c.loop-class.invariant.way tt c.in-Ok.ensures.goes;
+  ready = c.in-Ok.ensures.shared;
+  required = c.judge_class.ensures.required ∙ c.loop-class.invariant.required;
+}
 
-pub returns-clause-judges : goal.returns-clause-judges
-returns-clause-judges g c =
-    class_end c.args.options.now (case_of c.args.judged.now) c.args.classes.now c.loop-class.class-index c.args.budget c.args.given.now c.args.progress.now c.loop-class.progress c.args.steps.now c.loop-class.steps tt (search rules) c.loop-class.invariant.0
+pub returns-clause-goes : goal.returns-clause-goes
+returns-clause-goes g c =
+    go_end c.args.errand.now.asking.now (class_queries c.args.errand.now.walk.now.options c.args.classes.now (case_of c.args.spot.now.judged)) (class_queries c.args.errand.now.walk.now.options (drop c.loop-class.class-index c.args.classes.now) (case_of c.args.spot.now.judged))
+    c.args.going.now c.loop-class.going c.args.steps.now c.loop-class.steps tt
+    (classes_left c.args.errand.now.walk.now.options (case_of c.args.spot.now.judged) c.args.classes.now c.loop-class.class-index (search rules)) c.loop-class.invariant.way

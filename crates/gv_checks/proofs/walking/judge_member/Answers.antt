@@ -1,14 +1,8 @@
-use Rattle.std.proofs.Common.{List, subst}
-use Rattle.std.specs.Prelude.{filter_map, flat_map}
-use Rattle.gv_facts.specs.declared.kinds.Class.{Class}
-use Rattle.gv_checks.specs.Cases.{case_in}
-use Rattle.gv_checks.specs.Progress.{Judges}
-use Rattle.gv_checks.specs.Queries.{class_queries}
+use Rattle.std.proofs.Common.{sym, ◌∙◌}
+use Rattle.gv_checks.specs.Context.{listed}
+use Rattle.gv_checks.proofs.GoLemmas.{goes_passed}
 use Rattle.gv_checks.proofs.walking.judge_member.Goals as goal
 
-pub returns-clause-judges : goal.returns-clause-judges
-returns-clause-judges g c =
-    subst (λ (ks : List Class). Judges c.args.budget c.args.given.now
-    (flat_map (class_queries c.args.options.now ks) (filter_map (case_in c.args.repo.now.pkgs (record { number = c.args.number; pkg = c.args.pkg.now; body = c.args.body.now })) c.args.repo.now.profiles))
-    c.args.progress.now c.judge_pkg.new.progress c.args.steps.now c.judge_pkg.new.steps c.judge_pkg.result)
-    c.classes.ensures c.judge_pkg.ensures.judges
+pub returns-then-passes-clause-goes : goal.returns-then-passes-clause-goes
+returns-then-passes-clause-goes g c =
+    goes_passed c.args.errand.now.asking.now c.args.errand.now.walk.now.options (listed c.args.one.now) (sym c.passes.ensures ∙ c.if-passes.true) c.args.errand.now.walk.now.repo.pkgs c.args.errand.now.walk.now.repo.profiles c.args.going.now c.args.steps.now tt

@@ -15,6 +15,6 @@ returns-clause-any g c =
     let m = told_files (g.T.Tree.files c.args.tree.now) in
     let u = left_files (g.T.Tree.files c.args.tree.now) c.args.edits.now in
     IfOk-weaker c.add_each.result _
-    (λ any. IsTold (g.T.Tree.files c.args.tree.now) → (any || any_folder u c.add_each.new.next) ≡ (any_folder u c.args.next.now || is_folder u c.args.path.now))
-    (λ any h t. h t ∙ ap (λ b. any_folder u c.args.next.now || b) (sym (listed_folder c.in_order_law.ensures u m c.args.path.now c.in_ok-names.names (uncut_more m c.args.edits.now) (c.in_ok-names.ensures.names t))))
+    (λ any. IsTold (g.T.Tree.files c.args.tree.now) → (any || any_folder u c.add_each.new.ahead.items) ≡ (any_folder u c.args.ahead.now.items || is_folder u c.args.path.now))
+    (λ any h t. h t ∙ ap (λ b. any_folder u c.args.ahead.now.items || b) (sym (listed_folder c.in_order_law.ensures u m c.args.path.now c.in_ok-names.names (uncut_more m c.args.edits.now) (c.in_ok-names.ensures.names t))))
     (rw c.names_of.ensures.files at c.add_each.ensures.any)

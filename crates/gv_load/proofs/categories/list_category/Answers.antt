@@ -3,8 +3,8 @@ use Rattle.std.specs.Prelude.{filter, flat_map}
 use Rattle.gv_base.specs.Order.{has_text, in_order}
 use Rattle.gv_load.specs.Categories.{ebuilds_in, folders, is_pf, listed}
 use Rattle.gv_load.specs.Order.{folder_lists}
-use Rattle.gv_load.specs.Reading.{list}
-use Rattle.gv_load.proofs.Passing.{ended_first, ended_front, ended_then, faulted, no_memory, read_then}
+use Rattle.gv_reading.specs.Reading.{list}
+use Rattle.gv_reading.specs.Passing.{ended_first, ended_front, ended_then, faulted, no_memory, read_then}
 use Rattle.gv_load.proofs.categories.list_category.Goals as goal
 
 pub returns-in_err-entries-clause-reads : goal.returns-in_err-entries-clause-reads

@@ -1,9 +1,9 @@
 use Rattle.std.proofs.Common.{◌≡◌, ◌++◌, drop}
 use Rattle.std.specs.Prelude.{flat_map}
 use Rattle.gv_load.specs.Categories.{ebuilds_in}
-use Rattle.gv_load.specs.Causes.{view}
+use Rattle.gv_reading.specs.Causes.{view}
 use Rattle.gv_load.specs.Order.{folder_lists}
-use Rattle.gv_load.proofs.Passing.{IsAmid}
+use Rattle.gv_reading.specs.Passing.{IsAmid}
 use Rattle.gv_load.proofs.categories.list_folders.Given as goal
 
 -- the ebuilds so far and those of the other folders are all

@@ -1,9 +1,9 @@
 use Rattle.std.proofs.Common.{◌++◌, ℕ, List, refl, sym, ap}
 use Rattle.gv_load.specs.Directories.{pair_steps}
-use Rattle.gv_load.specs.Look.{Look}
-use Rattle.gv_load.specs.Reading.{Step}
+use Rattle.gv_reading.specs.Look.{Look}
+use Rattle.gv_reading.specs.Reading.{Step}
 use Rattle.gv_load.specs.declared.layout.Layout.{Layout}
-use Rattle.gv_load.proofs.Passing.{ended_first, ended_then, faulted, read_then}
+use Rattle.gv_reading.specs.Passing.{ended_first, ended_then, faulted, read_then}
 use Rattle.gv_load.proofs.directories.read_flags.Goals as goal
 
 abbrev steps : Look → List ℕ → Layout → List Step

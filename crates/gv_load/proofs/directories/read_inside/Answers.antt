@@ -1,6 +1,6 @@
 use Rattle.std.proofs.Common.{◌++◌, refl}
 use Rattle.gv_load.specs.Directories.{flag_steps, package_steps}
-use Rattle.gv_load.proofs.Passing.{ended_behind, ended_first, ended_front, ended_then, faulted, read_both, read_then}
+use Rattle.gv_reading.specs.Passing.{ended_behind, ended_first, ended_front, ended_then, faulted, read_both, read_then}
 use Rattle.gv_load.proofs.directories.read_inside.Goals as goal
 
 pub returns-in_err-head : goal.returns-in_err-head

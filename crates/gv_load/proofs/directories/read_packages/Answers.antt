@@ -1,10 +1,11 @@
 use Rattle.std.proofs.Common.{◌++◌, ℕ, List, refl, sym, ap}
-use Rattle.gv_profile.specs.Paths.{within}
-use Rattle.gv_load.specs.Directories.{file_steps, pair_steps}
-use Rattle.gv_load.specs.Look.{Look}
-use Rattle.gv_load.specs.Reading.{Step}
+use Rattle.gv_reading.specs.Paths.{within}
+use Rattle.gv_reading.specs.NamedFiles.{file_steps}
+use Rattle.gv_load.specs.Directories.{pair_steps}
+use Rattle.gv_reading.specs.Look.{Look}
+use Rattle.gv_reading.specs.Reading.{Step}
 use Rattle.gv_load.specs.declared.layout.Layout.{Layout}
-use Rattle.gv_load.proofs.Passing.{ended_behind, ended_first, ended_front, ended_then, faulted, read_both, read_then}
+use Rattle.gv_reading.specs.Passing.{ended_behind, ended_first, ended_front, ended_then, faulted, read_both, read_then}
 use Rattle.gv_load.proofs.directories.read_packages.Goals as goal
 
 abbrev steps : Look → List ℕ → Layout → List Step

@@ -1,7 +1,7 @@
 use Rattle.std.proofs.Common.{refl}
-use Rattle.gv_profile.specs.Paths.{within}
-use Rattle.gv_load.specs.Directories.{file_steps}
-use Rattle.gv_load.proofs.Passing.{ended_first, ended_then, faulted, read_then}
+use Rattle.gv_reading.specs.Paths.{within}
+use Rattle.gv_reading.specs.NamedFiles.{file_steps}
+use Rattle.gv_reading.specs.Passing.{ended_first, ended_then, faulted, read_then}
 use Rattle.gv_load.proofs.directories.read_pair.Goals as goal
 
 pub returns-in_err-mask : goal.returns-in_err-mask

@@ -3,7 +3,7 @@ use Rattle.std.proofs.lemmas.List.{take_all}
 use Rattle.gv_load.specs.DigestWords.{KeepsDigests}
 use Rattle.gv_load.specs.Order.{eclass_steps}
 use Rattle.gv_load.proofs.EclassLemmas.{taken, keeps_more, keeps_nothing}
-use Rattle.gv_load.proofs.Passing.{all_gone, amid_end, amid_ended, amid_next, amid_start, faulted, next_item}
+use Rattle.gv_reading.specs.Passing.{all_gone, amid_end, amid_ended, amid_next, amid_start, faulted, next_item}
 use Rattle.gv_load.proofs.eclasses.read_eclasses.Goals as goal
 
 pub loop-name-init : goal.loop-name-init

@@ -1,8 +1,8 @@
 use Rattle.std.proofs.Common.{drop, take}
-use Rattle.gv_load.specs.Causes.{view}
+use Rattle.gv_reading.specs.Causes.{view}
 use Rattle.gv_load.specs.DigestWords.{KeepsDigests}
 use Rattle.gv_load.specs.Order.{eclass_steps}
-use Rattle.gv_load.proofs.Passing.{IsAmid}
+use Rattle.gv_reading.specs.Passing.{IsAmid}
 use Rattle.gv_load.proofs.eclasses.read_eclasses.Given as goal
 
 -- the digests of the eclasses so far are kept

@@ -1,7 +1,7 @@
 use Rattle.std.proofs.Common.{◌≡◌, ◌∷◌, [], ◌+◌, ◌≤◌, drop, length, refl, ap, arith}
 use Rattle.gv_load.specs.Entries.{reads_of, all_reads}
 use Rattle.gv_load.specs.Order.{categories_steps}
-use Rattle.gv_load.proofs.Passing.{all_gone, amid_end, amid_ended, amid_next, faulted, last_values, more_values, next_item}
+use Rattle.gv_reading.specs.Passing.{all_gone, amid_end, amid_ended, amid_next, faulted, last_values, more_values, next_item}
 use Rattle.gv_load.proofs.entries.read_categories.Goals as goal
 
 pub returns-in_err-read_category : goal.returns-in_err-read_category

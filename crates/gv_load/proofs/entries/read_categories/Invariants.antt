@@ -1,8 +1,8 @@
 use Rattle.std.proofs.Common.{◌≡◌, ◌++◌, drop}
-use Rattle.gv_load.specs.Causes.{view}
+use Rattle.gv_reading.specs.Causes.{view}
 use Rattle.gv_load.specs.Entries.{all_reads}
 use Rattle.gv_load.specs.Order.{categories_steps}
-use Rattle.gv_load.proofs.Passing.{IsAmid}
+use Rattle.gv_reading.specs.Passing.{IsAmid}
 use Rattle.gv_load.proofs.entries.read_categories.Given as goal
 
 -- what was read so far and that of the other categories is all

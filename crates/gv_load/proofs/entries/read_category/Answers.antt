@@ -1,9 +1,9 @@
 use Rattle.std.proofs.Common.{◌++◌, List, refl, ap, ◌∙◌}
 use Rattle.gv_load.specs.Categories.{listed, pfs_of}
 use Rattle.gv_load.specs.Order.{listing_steps, pfs_steps}
-use Rattle.gv_load.specs.Reading.{Step}
+use Rattle.gv_reading.specs.Reading.{Step}
 use Rattle.gv_load.specs.declared.entries.PfRead.{PfRead}
-use Rattle.gv_load.proofs.Passing.{ended_first, ended_then, faulted, read_then}
+use Rattle.gv_reading.specs.Passing.{ended_first, ended_then, faulted, read_then}
 use Rattle.gv_load.proofs.PfLemmas.{steps_are, reads_are}
 use Rattle.gv_load.proofs.entries.read_category.Goals as goal
 

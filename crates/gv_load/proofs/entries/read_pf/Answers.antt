@@ -1,8 +1,8 @@
 use Rattle.std.proofs.Common.{◌∷◌, [], refl, ◌∙◌}
 use Rattle.gv_load.specs.Categories.{name_of}
 use Rattle.gv_load.specs.Paths.{ebuild_path}
-use Rattle.gv_load.specs.Reading.{once}
-use Rattle.gv_load.proofs.Passing.{ended_first, ended_then, faulted, no_memory, read_then}
+use Rattle.gv_reading.specs.Reading.{once}
+use Rattle.gv_reading.specs.Passing.{ended_first, ended_then, faulted, no_memory, read_then}
 use Rattle.gv_load.proofs.entries.read_pf.Goals as goal
 
 pub returns-in_err-entry : goal.returns-in_err-entry

@@ -3,7 +3,7 @@ use Rattle.std.specs.List.{list_all}
 use Rattle.gv_load.specs.Categories.{is_pf}
 use Rattle.gv_load.specs.Entries.{pf_read}
 use Rattle.gv_load.specs.Order.{pfs_steps}
-use Rattle.gv_load.proofs.Passing.{all_gone, amid_end, amid_ended, amid_next, faulted, last_values, more_values, next_item}
+use Rattle.gv_reading.specs.Passing.{all_gone, amid_end, amid_ended, amid_next, faulted, last_values, more_values, next_item}
 use Rattle.gv_load.proofs.PfLemmas.{later}
 use Rattle.gv_load.proofs.entries.read_pfs.Goals as goal
 

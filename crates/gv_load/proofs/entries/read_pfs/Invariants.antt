@@ -1,10 +1,10 @@
 use Rattle.std.proofs.Common.{◌≡◌, ◌++◌, drop, map, true}
 use Rattle.std.specs.List.{list_all}
 use Rattle.gv_load.specs.Categories.{is_pf}
-use Rattle.gv_load.specs.Causes.{view}
+use Rattle.gv_reading.specs.Causes.{view}
 use Rattle.gv_load.specs.Entries.{pf_read}
 use Rattle.gv_load.specs.Order.{pfs_steps}
-use Rattle.gv_load.proofs.Passing.{IsAmid}
+use Rattle.gv_reading.specs.Passing.{IsAmid}
 use Rattle.gv_load.proofs.entries.read_pfs.Given as goal
 
 -- what was read so far and that of the other PFs is all

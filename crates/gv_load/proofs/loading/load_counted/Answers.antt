@@ -1,18 +1,17 @@
-use Rattle.std.proofs.Common.{subst, sym}
-use Rattle.gv_load.specs.Causes.{Knows}
-use Rattle.gv_load.specs.Reader.{Seen}
-use Rattle.gv_load.proofs.LoadLemmas.{cause_told, passes_told, repo_told}
-use Rattle.gv_load.proofs.Readings.{knows_nothing}
+use Rattle.gv_load.proofs.LoadLemmas.{cause_told, finds_told, passes_told, repo_told}
 use Rattle.gv_load.proofs.loading.load_counted.Goals as goal
 
 pub read_repo-requires-clause-knows : goal.read_repo-requires-clause-knows
-read_repo-requires-clause-knows g c = subst (λ (s : Seen). Knows (g.T.Tree.files c.args.tree.now) s) (sym c.new-reader.ensures) (knows_nothing (g.T.Tree.files c.args.tree.now))
+read_repo-requires-clause-knows g c = c.new-reader.ensures.knows (g.T.Tree.files c.args.tree.now)
 
 pub returns-in-Ok-clause-repo : goal.returns-in-Ok-clause-repo
-returns-in-Ok-clause-repo g c = repo_told c.new-reader.ensures c.in-Ok.repo c.in-Ok.ensures.reads
+returns-in-Ok-clause-repo g c = repo_told c.new-reader.ensures.is c.in-Ok.repo c.in-Ok.ensures.reads
 
 pub returns-in-Ok-clause-found : goal.returns-in-Ok-clause-found
-returns-in-Ok-clause-found g c = passes_told c.new-reader.ensures c.in-Ok.repo c.found.result c.found.ensures c.in-Ok.ensures.reads
+returns-in-Ok-clause-found g c = passes_told c.new-reader.ensures.is c.in-Ok.repo c.found.result c.found.ensures c.in-Ok.ensures.reads
+
+pub returns-in-Ok-clause-exact : goal.returns-in-Ok-clause-exact
+returns-in-Ok-clause-exact g c = finds_told c.new-reader.ensures.is c.in-Ok.repo c.found.result c.found.ensures c.in-Ok.ensures.reads
 
 pub returns-clause-cause : goal.returns-clause-cause
-returns-clause-cause g c = cause_told c.new-reader.ensures c.in-Err.fault c.in-Err.ensures.reads
+returns-clause-cause g c = cause_told c.new-reader.ensures.is c.in-Err.fault c.in-Err.ensures.reads

@@ -1,6 +1,6 @@
 use Rattle.std.proofs.Common.{ap, ◌∙◌, map}
 use Rattle.gv_load.specs.Repository.{body_of, pkg_of}
-use Rattle.gv_load.proofs.MemberLemmas.{in_order_are, in_package_order_are}
+use Rattle.gv_load.specs.MemberLemmas.{in_order_are, in_package_order_are}
 use Rattle.gv_load.proofs.members.packages_in.Goals as goal
 
 pub returns-clause-pkgs : goal.returns-clause-pkgs

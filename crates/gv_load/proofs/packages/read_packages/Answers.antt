@@ -2,7 +2,7 @@ use Rattle.std.proofs.Common.{◌++◌, List, ℕ, refl, ap, sym, ◌∙◌, map
 use Rattle.gv_load.specs.Entries.{all_reads, eclass_digest, eclass_names}
 use Rattle.gv_load.specs.Freshness.{pf_kept}
 use Rattle.gv_load.specs.Order.{categories_steps, eclass_steps}
-use Rattle.gv_load.proofs.Passing.{ended_first, ended_then, faulted, no_memory, read_then}
+use Rattle.gv_reading.specs.Passing.{ended_first, ended_then, faulted, no_memory, read_then}
 use Rattle.gv_load.proofs.packages.read_packages.Goals as goal
 
 pub returns-in_err-reads : goal.returns-in_err-reads

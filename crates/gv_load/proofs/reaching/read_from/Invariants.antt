@@ -1,23 +1,11 @@
-use Rattle.std.proofs.Common.{◌≡◌}
-use Rattle.std.specs.Prelude.{Ok}
-use Rattle.gv_load.specs.Ahead.{reached_after, IsIndexed, KeepsDirs}
-use Rattle.gv_load.specs.Directories.{steps_of, dir_at}
-use Rattle.gv_load.specs.Causes.{Knows, IsTold, look_in, around}
-use Rattle.gv_load.specs.Closed.{IsClosed, IsClosedBut, paths_left}
-use Rattle.gv_load.specs.Reader.{Seen}
+use Rattle.std.proofs.Common.{◌∷◌, []}
+use Rattle.gv_load.specs.Going.{HasGone}
 use Rattle.gv_load.specs.Reaching.{reach_below}
-use Rattle.gv_load.specs.Reading.{passed}
 use Rattle.gv_load.proofs.reaching.read_from.Given as goal
+use Rattle.gv_reading.specs.Causes.{view}
 
+-- what was reached so far and what is ahead is all
 abbrev pub invariant-loop : goal.invariant-loop
-invariant-loop g l = record {
-  order : IsTold (g.T.Tree.files l.fn.tree) → reached_after (dir_at (look_in (g.T.Tree.files l.fn.tree))) 0 l.ahead.items l.now.order ≡ reach_below (dir_at (look_in (g.T.Tree.files l.fn.tree))) 0 l.fn.reached.order l.fn.dir;
-  passed : (start : Seen) → IsTold (g.T.Tree.files l.fn.tree) → passed (look_in (g.T.Tree.files l.fn.tree)) start (steps_of (look_in (g.T.Tree.files l.fn.tree)) l.fn.reached.order) ≡ Ok l.fn.reader → passed (look_in (g.T.Tree.files l.fn.tree)) start (steps_of (look_in (g.T.Tree.files l.fn.tree)) l.now.order) ≡ Ok l.reader;
-  dirs : IsTold (g.T.Tree.files l.fn.tree) → KeepsDirs (look_in (g.T.Tree.files l.fn.tree)) l.fn.reached → KeepsDirs (look_in (g.T.Tree.files l.fn.tree)) l.now;
-  closed : IsTold (g.T.Tree.files l.fn.tree) → IsClosed (dir_at (look_in (g.T.Tree.files l.fn.tree))) l.fn.reached.order → IsClosedBut (dir_at (look_in (g.T.Tree.files l.fn.tree))) l.now.order (paths_left l.ahead.items);
-  indexed : IsIndexed l.now;
-  knows : Knows (g.T.Tree.files l.fn.tree) l.reader;
-  files : g.T.Tree.files l.tree ≡ g.T.Tree.files l.fn.tree;
-  around : around (g.T.Tree.entered l.tree) (g.T.Tree.lent l.tree) ≡ around (g.T.Tree.entered l.fn.tree) (g.T.Tree.lent l.fn.tree);
-  calm : g.T.Tree.faults l.tree ≡ g.T.Tree.faults l.fn.tree;
-}
+invariant-loop g l =
+    let see = view g.T.Tree.files g.T.Tree.faults g.T.Tree.entered g.T.Tree.lent in
+    HasGone (see l.fn.tree) (see l.tree) l.fn.reached l.fn.reader l.reader (l.fn.dir ∷ []) (λ dirs. reach_below dirs 0 l.fn.reached.order l.fn.dir) l.ahead.items l.now

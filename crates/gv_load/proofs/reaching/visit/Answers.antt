@@ -2,7 +2,7 @@ use Rattle.std.proofs.Common.{◌++◌, refl, ap, ◌∙◌}
 use Rattle.std.specs.Prelude.{Option}
 use Rattle.gv_profile.specs.declared.files.DirFiles.{DirFiles}
 use Rattle.gv_load.specs.Ahead.{ahead_of, dirs_with}
-use Rattle.gv_load.proofs.Passing.{faulted, no_memory, read_as}
+use Rattle.gv_reading.specs.Passing.{faulted, no_memory, read_as}
 use Rattle.gv_load.proofs.reaching.visit.Goals as goal
 
 pub returns-in_err-files-clause-reads : goal.returns-in_err-files-clause-reads

@@ -5,7 +5,7 @@ use Rattle.gv_expr.specs.Required.{reqs}
 use Rattle.gv_facts.specs.States.{state}
 use Rattle.gv_entry.specs.Allowed.{is_free}
 use Rattle.gv_lower.proofs.MentionedFlags.{filtered_ascends}
-use Rattle.gv_lower.specs.Mentions.{texts_of}
+use Rattle.gv_expr.specs.Mentions.{texts_of}
 use Rattle.gv_lower.proofs.flags.required_flags.Goals as goal
 
 pub returns-clause-flags : goal.returns-clause-flags

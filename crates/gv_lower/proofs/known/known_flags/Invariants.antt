@@ -1,5 +1,5 @@
 use Rattle.std.proofs.Common.{◌≡◌, ◌++◌, drop, map}
-use Rattle.gv_lower.specs.Mentions.{texts_of}
+use Rattle.gv_expr.specs.Mentions.{texts_of}
 use Rattle.gv_lower.specs.Sites.{known_of}
 use Rattle.gv_lower.proofs.known.known_flags.Given as goal
 

@@ -1,3 +1,4 @@
+use Rattle.gv_facts.specs.Preferred.{preferred}
 use Rattle.gv_entry.specs.Weight.{weight}
 use Rattle.gv_lower.specs.Around.{parent_of}
 use Rattle.gv_lower.specs.Lowering.{IsQuery}
@@ -13,4 +14,4 @@ failing_query-requires-clause-formed g c =
 pub returns-in-Err : goal.returns-in-Err
 returns-in-Err g c =
     light_refused c.args.inputs (weight (parent_of c.args.candidates.now c.args.pkg.now) c.args.required.now c.args.class.now)
-    (IsQuery (failing_gates (parent_of c.args.candidates.now c.args.pkg.now) c.args.required.now c.args.class.now c.args.inputs) c.args.inputs (failing_items (parent_of c.args.candidates.now c.args.pkg.now) c.args.required.now c.args.class.now c.args.inputs)) c.in-Err.fault c.requires.few c.in-Err.ensures
+    (IsQuery (failing_gates (parent_of c.args.candidates.now c.args.pkg.now) c.args.required.now c.args.class.now c.args.inputs) c.args.inputs (failing_items (parent_of c.args.candidates.now c.args.pkg.now) c.args.required.now c.args.class.now c.args.inputs) (preferred c.args.pkg.now c.args.inputs)) c.in-Err.fault c.requires.few c.in-Err.ensures

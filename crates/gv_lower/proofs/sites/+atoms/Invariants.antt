@@ -7,4 +7,4 @@ use Rattle.gv_lower.proofs.sites.+atoms.Given as goal
 
 abbrev pub invariant-add_sites-loop-tree : goal.invariant-add_sites-loop-tree
 invariant-add_sites-loop-tree l =
-    l.atoms.items ++ map (site_of l.ruled l.index) (wanted_atoms (deps (view_of (drop l.tree-index l.tree-items)))) ≡ l.initial.atoms.items ++ map (site_of l.ruled l.index) (wanted_atoms (deps l.items))
+    l.atoms.items ++ map (site_of l.ruled l.pkgs) (wanted_atoms (deps (view_of (drop l.tree-index l.tree-items)))) ≡ l.initial.atoms.items ++ map (site_of l.ruled l.pkgs) (wanted_atoms (deps l.items))

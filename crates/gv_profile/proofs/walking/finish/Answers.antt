@@ -1,6 +1,10 @@
-use Rattle.std.proofs.Common.{rules, ◌≡◌, ◌∙◌, [], ◌∷◌, ◌++◌}
+use Rattle.std.proofs.Common.{rules, ◌≡◌, ◌∙◌, List, [], ◌∷◌, ◌++◌, sym, ap}
 use Rattle.std.specs.FinMap.{get}
+use Rattle.std.proofs.lemmas.List.{append-nil}
+use Rattle.gv_profile.specs.declared.frames.Frame.{Frame}
 use Rattle.gv_profile.specs.declared.frames.Walk.{Walk}
+use Rattle.gv_profile.specs.Frames.{left_below}
+use Rattle.gv_profile.specs.Walking.{stack_of}
 use Rattle.gv_profile.proofs.Walks.{taken_off}
 use Rattle.gv_profile.proofs.walking.finish.Goals as goal
 
@@ -34,3 +38,9 @@ loop-frame-smaller c =
     let is : w.frames ≡ c.pop.new.self ++ c.in-Some.frame ∷ [] = search rules in
     let meets = taken_off (get c.args.dirs.now) w old c.in-Some.frame is in
     rw meets c.in-Ok.ensures.leads.less
+
+pub returns-clause-state : goal.returns-clause-state
+returns-clause-state c =
+    let w = c.loop-frame.walk in
+    let none : w.frames ≡ [] = search rules in
+    sym (c.loop-frame.invariant.state ∙ ap (λ (fs : List Frame). w.done ++ stack_of (left_below (get c.args.dirs.now) [] fs)) none ∙ append-nil w.done)

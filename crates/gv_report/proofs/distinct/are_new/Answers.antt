@@ -5,7 +5,7 @@ use Rattle.std.proofs.lemmas.List.{take_more}
 use Rattle.gv_report.specs.declared.report.Report.{Report}
 use Rattle.gv_report.specs.Marks.{are_new}
 use Rattle.gv_report.specs.Distinct.{has_report}
-use Rattle.gv_report.proofs.FirstReports.{found, sees}
+use Rattle.gv_report.specs.FirstReports.{found, sees}
 use Rattle.gv_report.proofs.distinct.are_new.Goals as goal
 
 taken : (rs : List Report) (i : ℕ) (r : Report) → i < length rs → r ≡ get_or rs i r → take (i + 1) rs ≡ take i rs ++ r ∷ []

@@ -1,6 +1,6 @@
 use Rattle.std.proofs.Common.{◌≡◌, [], ◌++◌, take, drop}
 use Rattle.gv_report.specs.Marks.{are_new}
-use Rattle.gv_report.proofs.FirstReports.{HasSeen}
+use Rattle.gv_report.specs.FirstReports.{HasSeen}
 use Rattle.gv_report.proofs.distinct.are_new.Given as goal
 
 abbrev pub invariant-loop-report : goal.invariant-loop-report

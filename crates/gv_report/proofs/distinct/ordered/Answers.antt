@@ -4,9 +4,9 @@ use Rattle.std.proofs.lemmas.List.Sorted.{answers_always}
 use Rattle.gv_report.specs.Marks.{are_new, marked}
 use Rattle.gv_report.specs.Distinct.{is_before}
 use Rattle.gv_report.specs.Sorting.{in_order, TiesStay}
-use Rattle.gv_report.proofs.OrderedLaw.{ranks}
-use Rattle.gv_report.proofs.SortLemmas.{sorted_is}
-use Rattle.gv_report.proofs.StrictLaw.{marked_ordered, strict_ordered}
+use Rattle.gv_report.specs.OrderedLaw.{ranks}
+use Rattle.gv_report.specs.SortLemmas.{sorted_is}
+use Rattle.gv_report.specs.StrictLaw.{marked_ordered, strict_ordered}
 use Rattle.gv_report.proofs.distinct.ordered.Goals as goal
 
 pub returns-then-are_strict : goal.returns-then-are_strict

@@ -1,8 +1,8 @@
 use Rattle.std.proofs.Common.{refl, subst, ◌∙◌}
 use Rattle.std.specs.Prelude.{Some}
 use Rattle.std.proofs.lemmas.Result.{IfOk-weaker}
-use Rattle.gv_load.specs.Replacing.{IsChange}
-use Rattle.gv_load.specs.declared.replacing.Changed.TheVariants.{Part}
+use Rattle.gv_reload.specs.Replacing.{IsChange}
+use Rattle.gv_reload.specs.declared.replacing.Changed.TheVariants.{Part}
 use Rattle.gv_session.specs.Judging.{IsJudgedFor, Outset, outset}
 use Rattle.gv_session.proofs.JudgingLemmas.{IsWhole, all_other, in_order, refused_again, renewed, same_kept, whole_loaded}
 use Rattle.gv_session.proofs.judging.judge_loaded.Goals as goal

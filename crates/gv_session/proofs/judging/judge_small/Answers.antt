@@ -1,8 +1,8 @@
 use Rattle.std.proofs.Common.{◌≡◌, ap, refl, subst, sym, ◌∙◌}
 use Rattle.std.specs.Prelude.{Some}
-use Rattle.gv_load.specs.Rereading.{IsReread, IsRereadOf}
+use Rattle.gv_reload.specs.Rereading.{IsReread, IsRereadOf}
 use Rattle.gv_edits.specs.Edits.{edited_told}
-use Rattle.gv_checks.specs.Mentioned.{are_kept}
+use Rattle.gv_renew.specs.Mentioned.{other_bodies}
 use Rattle.gv_session.specs.Judging.{Outset, outset}
 use Rattle.gv_session.proofs.JudgingLemmas.{IsWhole, entries_are, in_order, refused_again, renewed, same_kept, whole_reread}
 use Rattle.gv_session.proofs.judging.judge_small.Goals as goal
@@ -17,7 +17,7 @@ pub with-requires-clause-kept : goal.with-requires-clause-kept
 with-requires-clause-kept g c =
     let same : c.in-Ok-Unclear.repo ≡ c.args.last.repo =
     subst (IsReread c.args.entries.now c.args.last.repo c.args.last.found (edited_told (g.T.Tree.files c.args.tree.now) c.args.edits.now)) c.in-Ok-Unclear.field-0-is c.in-Ok-Unclear.ensures.reread in
-    c.in_ok-kept.ensures ∙ ap (are_kept c.args.entries.now) (sym same)
+    c.in_ok-kept.ensures ∙ ap (other_bodies c.args.entries.now) (sym same)
 
 pub judge_again-requires-clause-before : goal.judge_again-requires-clause-before
 judge_again-requires-clause-before g c = in_order c.ordered_law.ensures.again c.args.options.now c.requires.last.repo c.args.last.reports c.requires.last.reports

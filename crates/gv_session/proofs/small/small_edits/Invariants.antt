@@ -1,6 +1,6 @@
 use Rattle.std.proofs.Common.{◌≡◌, length, not}
 use Rattle.std.specs.List.{list_any}
-use Rattle.gv_load.specs.EntryEdits.{is_in_metadata}
+use Rattle.gv_reload.specs.EntryEdits.{is_in_metadata}
 use Rattle.gv_session.specs.Small.{AreUpTo}
 use Rattle.gv_session.proofs.small.small_edits.Given as goal
 

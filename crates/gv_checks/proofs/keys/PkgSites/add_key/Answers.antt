@@ -1,4 +1,4 @@
-use Rattle.std.proofs.Common.{◌≡◌, ◌∙◌, Some, rules}
+use Rattle.std.proofs.Common.{◌≡◌, Some, rules}
 use Rattle.gv_visible.specs.Candidates.{level_of, pkgs_of, profile_of}
 use Rattle.gv_checks.specs.Keys.{sites_at}
 use Rattle.gv_checks.proofs.KeyLemmas.{key_none, key_some, sites_among, sites_one}
@@ -24,4 +24,4 @@ returns-in-Some g c =
     on_ok c.add_class_key.result
     (key_some c.args.judged.now c.args.states.now c.args.self.now c.args.required.now c.requires.parts c.args.class c.in-Some.sites.now some c.args.key.now.items c.extend_from_slice.new.self.items c.add_class_key.new.key.items (search rules)
     (profile_of c.args.candidates.now) (level_of c.args.candidates.now) (pkgs_of c.args.candidates.now) c.requires.around.profile_is c.requires.around.level_is c.requires.around.pkgs_are)
-    c.add_class_key.ensures
+    c.add_class_key.ensures.ok

@@ -1,7 +1,0 @@
-use Rattle.std.proofs.Common.{◌≡◌, ◌++◌, drop}
-use Rattle.std.specs.Prelude.{flat_map}
-use Rattle.gv_checks.specs.Touched.{anew_at}
-use Rattle.gv_checks.proofs.afresh.add_anew.Given as goal
-
-abbrev pub invariant-loop-one : goal.invariant-loop-one
-invariant-loop-one l = l.reports ++ flat_map (anew_at l.options l.repo) (drop l.one-index l.touched) ≡ l.initial.reports ++ flat_map (anew_at l.options l.repo) l.touched

@@ -1,7 +1,0 @@
-use Rattle.std.proofs.Common.{◌≡◌, ◌++◌, drop}
-use Rattle.gv_atom.specs.declared.atom.Block.TheVariants.{No}
-use Rattle.gv_expr.specs.Mentions.{item_mentions}
-use Rattle.gv_expr.proofs.mentions.add_items.Given as goal
-
-abbrev pub invariant-loop-item : goal.invariant-loop-item
-invariant-loop-item l = l.flags ++ item_mentions No (drop l.item-index l.items) ≡ l.initial.flags ++ item_mentions No l.items

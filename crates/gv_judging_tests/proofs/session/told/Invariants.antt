@@ -1,4 +1,0 @@
-use Rattle.gv_judging_tests.proofs.session.told.Given as goal
-
-abbrev pub ghosts-told_counted : goal.ghosts-told_counted
-ghosts-told_counted g a = record { name = a.blank.name; parts = a.blank.parts }

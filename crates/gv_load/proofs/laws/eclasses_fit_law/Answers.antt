@@ -1,5 +1,0 @@
-use Rattle.gv_load.proofs.EntriesPass.{eclasses_fit_all}
-use Rattle.gv_load.proofs.laws.eclasses_fit_law.Goals as goal
-
-pub returns : goal.returns
-returns c = eclasses_fit_all

@@ -1,5 +1,0 @@
-use Rattle.gv_load.proofs.EditedIn.{none_edited}
-use Rattle.gv_load.proofs.laws.edited_in_law.Goals as goal
-
-pub returns : goal.returns
-returns c = none_edited

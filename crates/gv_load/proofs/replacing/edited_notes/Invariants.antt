@@ -1,6 +1,0 @@
-use Rattle.std.proofs.Common.{◌≡◌, ◌++◌, drop}
-use Rattle.gv_load.specs.Replacing.{edited_notes}
-use Rattle.gv_load.proofs.replacing.edited_notes.Given as goal
-
-abbrev pub invariant-loop-note : goal.invariant-loop-note
-invariant-loop-note l = l.edited ++ edited_notes l.edits (drop l.note-index l.notes) ≡ edited_notes l.edits l.notes

@@ -1,0 +1,3 @@
+mod LeftLemmas
+mod MergeLemmas
+mod PartLemmas

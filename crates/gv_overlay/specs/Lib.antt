@@ -1,0 +1,5 @@
+pub mod Combined
+pub mod Judged
+pub mod Loaded
+pub mod Overlays
+pub mod Refused

@@ -1,0 +1,296 @@
+//! Calls of `gv_checks` over the loaded tree.
+ghost use Rattle.std.specs.Prelude.{◌≡◌};
+ghost use Rattle.gv_checks.specs.Named.{HasNamed};
+
+use crate::entry::digits;
+use crate::given::Given;
+use crate::judging::{answered, judged};
+use crate::made::words;
+use crate::outside::Outside;
+use crate::reports::printed;
+use crate::walking::walked;
+use crate::written::Telling;
+use gv_base::{Ledger, NoMemory, Steps};
+use gv_cert::{Known, read_known};
+use gv_checks::{Found1, JudgeFault, QueryName, ask_one, judge, plain, plain_one, queries};
+use gv_facts::{Level, class_text};
+use gv_load::{Repo, load};
+use gv_report::Options;
+use gv_words::default_options;
+use std::alloc::Global;
+use std::marker::Brand;
+use std::sync::ledger::Blank;
+
+/// Tells the answer to a call of this library, if it is one. The first part is the budget, and the second has the paths of the
+/// profiles that are asked about, where not all are.
+pub(crate) fn answer(
+    alloc: Global,
+    call: &str,
+    given: &Given,
+    outside: &Outside,
+    told: &mut Telling,
+) -> Result<bool, NoMemory> {
+    let Some(call) = call_of(call) else {
+        return Ok(false);
+    };
+    let mut tree = outside.tree(alloc)?;
+    match load(alloc, &mut tree) {
+        Ok(repo) => of_repo(alloc, call, given, outside, &repo, told)?,
+        Err(_) => told.say("no repository"),
+    }
+    Ok(true)
+}
+
+fn of_repo(
+    alloc: Global,
+    call: Call,
+    given: &Given,
+    outside: &Outside,
+    repo: &Repo,
+    told: &mut Telling,
+) -> Result<(), NoMemory> {
+    let certs = outside.store.get(given.bytes(0)).unwrap_or(&[]);
+    let certs = read_known(alloc, certs)?;
+    over::<Brand>(alloc, Blank::new(2), call, given, repo, &certs, told)
+}
+
+#[derive(Clone, Copy)]
+enum Call {
+    Judge,
+    Ask,
+    Queries,
+    Gates,
+    Records,
+    PlainReports,
+    PlainOne,
+    Answered,
+    Walk,
+}
+
+fn call_of(call: &str) -> Option<Call> {
+    match call {
+        "judge" => Some(Call::Judge),
+        "ask" => Some(Call::Ask),
+        "queries" => Some(Call::Queries),
+        "gates" => Some(Call::Gates),
+        "records" => Some(Call::Records),
+        "plain-reports" => Some(Call::PlainReports),
+        "plain-one" => Some(Call::PlainOne),
+        "answered" => Some(Call::Answered),
+        "walk" => Some(Call::Walk),
+        _ => None,
+    }
+}
+
+fn over<L: Ledger>(
+    alloc: Global,
+    blank: Blank,
+    call: Call,
+    given: &Given,
+    repo: &Repo,
+    certs: &Known,
+    told: &mut Telling,
+) -> Result<(), NoMemory>
+    requires name { blank.name ≡ L.name }
+    requires parts { blank.parts ≡ L.parts }
+    requires two { blank.parts ≡ 2 }
+{
+    let mut steps = Steps::<L>::open(blank);
+    let options = options(alloc, given)?;
+    by_call(alloc, call, given, repo, certs, &options, &mut steps, told)
+}
+
+fn by_call<L: Ledger>(
+    alloc: Global,
+    call: Call,
+    given: &Given,
+    repo: &Repo,
+    certs: &Known,
+    options: &Options,
+    steps: &mut Steps<L>,
+    told: &mut Telling,
+) -> Result<(), NoMemory> {
+    match call {
+        Call::Judge => judged(alloc, repo, options, steps, told),
+        Call::Ask => asked(alloc, repo, options, steps, told),
+        Call::Gates => gates(alloc, repo, options, given, steps, told),
+        Call::Records => records(alloc, repo, options, steps, told),
+        Call::Answered => answered(alloc, repo, &default_options(alloc)?, certs, steps, told),
+        Call::Walk => walked(alloc, repo, options, given, steps, told),
+        Call::PlainReports => printed(alloc, options, &plain(alloc, repo, options)?, told),
+        Call::PlainOne => {
+            let reports = plain_one(alloc, repo, given.small_number(2), options)?;
+            printed(alloc, options, &reports, told)
+        }
+        Call::Queries => names(alloc, repo, options, told),
+    }
+}
+
+/// The options of the first two parts.
+pub(crate) fn options(alloc: Global, given: &Given) -> Result<Options, NoMemory> {
+    let Options { keywords, .. } = default_options(alloc)?;
+    let paths = given.words(1);
+    let profiles = if paths.is_empty() {
+        None
+    } else {
+        Some(words(alloc, paths)?)
+    };
+    Ok(Options {
+        keywords,
+        profiles,
+        json: false,
+        budget: given.number(0).clamp(1, 1_000_000) as u32,
+    })
+}
+
+// The queries in order: the place of the package, the class, the line of the profile and the level.
+fn names(
+    alloc: Global,
+    repo: &Repo,
+    options: &Options,
+    told: &mut Telling,
+) -> Result<(), NoMemory> {
+    for name in queries(alloc, repo, options)?.copy(alloc)?.items() {
+        add_name(alloc, name, told)?;
+        told.say("; ");
+    }
+    Ok(())
+}
+
+/// The place of the package, the class, the line of the profile and the level.
+pub(crate) fn add_name(
+    alloc: Global,
+    name: &QueryName,
+    told: &mut Telling,
+) -> Result<(), NoMemory> {
+    let name = name.copy(alloc)?;
+    told.number(u64::from(name.package));
+    told.add(b" ");
+    told.add(class_text(name.class));
+    told.add(b" ");
+    told.number(u64::from(name.context.line));
+    told.say(match name.context.level {
+        Level::Stable => " stable",
+        Level::Testing => " testing",
+    });
+    Ok(())
+}
+
+// The answer to one query, if there is one.
+fn found<L: Ledger>(
+    alloc: Global,
+    repo: &Repo,
+    name: &QueryName,
+    options: &Options,
+    steps: &mut Steps<L>,
+) -> Result<Option<Found1>, NoMemory>
+    requires { HasNamed options.now repo.now name.now }
+{
+    match ask_one(alloc, repo, name, options, &Known::new(alloc), steps) {
+        Ok(found) => Ok(Some(found.copy(alloc)?)),
+        Err(JudgeFault::NoMemory) => Err(NoMemory),
+        Err(_) => Ok(None),
+    }
+}
+
+// Of each query its assignment, and whether it is reported.
+fn asked<L: Ledger>(
+    alloc: Global,
+    repo: &Repo,
+    options: &Options,
+    steps: &mut Steps<L>,
+    told: &mut Telling,
+) -> Result<(), NoMemory> {
+    for name in queries(alloc, repo, options)?.items() {
+        if let Some(found) = found(alloc, repo, name, options, steps)? {
+            add_found(&found, told);
+        }
+        told.say("; ");
+    }
+    Ok(())
+}
+
+fn add_found(found: &Found1, told: &mut Telling) {
+    match &found.witness {
+        Some(witness) => told.add(witness.bytes()),
+        None => told.say("none"),
+    }
+    if found.report.is_some() {
+        told.say(", reported");
+    }
+}
+
+// The bytes of the gates of the first query of a package and a class, of the third part and the fourth, in digits.
+fn gates<L: Ledger>(
+    alloc: Global,
+    repo: &Repo,
+    options: &Options,
+    given: &Given,
+    steps: &mut Steps<L>,
+    told: &mut Telling,
+) -> Result<(), NoMemory> {
+    let package = given.number(2);
+    for name in queries(alloc, repo, options)?.items() {
+        if u64::from(name.package) == package && class_text(name.class) == given.bytes(3) {
+            match found(alloc, repo, name, options, steps)? {
+                Some(found) => digits(found.query.bytes(), told),
+                None => told.say("refused"),
+            }
+            return Ok(());
+        }
+    }
+    told.say("no query");
+    Ok(())
+}
+
+// Of each record the first query, from 0, that has its gates.
+fn records<L: Ledger>(
+    alloc: Global,
+    repo: &Repo,
+    options: &Options,
+    steps: &mut Steps<L>,
+    told: &mut Telling,
+) -> Result<(), NoMemory> {
+    match judge(alloc, repo, options, &Known::new(alloc), steps) {
+        Ok(judged) => places(alloc, repo, options, &judged.certs, steps, told),
+        Err(_) => {
+            told.say("refused");
+            Ok(())
+        }
+    }
+}
+
+fn places<L: Ledger>(
+    alloc: Global,
+    repo: &Repo,
+    options: &Options,
+    certs: &Known,
+    steps: &mut Steps<L>,
+    told: &mut Telling,
+) -> Result<(), NoMemory> {
+    for number in 0..certs.count() {
+        let place = first_place(alloc, repo, options, certs.query(number), steps)?;
+        told.number(u64::from(place));
+        told.add(b" ");
+    }
+    Ok(())
+}
+
+fn first_place<L: Ledger>(
+    alloc: Global,
+    repo: &Repo,
+    options: &Options,
+    query: &[u8],
+    steps: &mut Steps<L>,
+) -> Result<u32, NoMemory> {
+    let mut place: u32 = 0;
+    for name in queries(alloc, repo, options)?.items() {
+        if let Some(found) = found(alloc, repo, name, options, steps)? {
+            if found.query.bytes() == query {
+                return Ok(place);
+            }
+        }
+        place = place.saturating_add(1);
+    }
+    Ok(place)
+}

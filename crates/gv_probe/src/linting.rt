@@ -1,0 +1,160 @@
+//! Calls of `gv_usedefaults` over the files: what a walk reads, what the stack of a line says of flags, and their defaults. A walk is
+//! over these files, or over those with the bytes of the second part at the path of the first, where the load was not.
+use crate::given::Given;
+use crate::loading::fault;
+use crate::outside::Outside;
+use crate::profiles::{add_rule, add_words};
+use crate::written::Telling;
+use gv_base::{MemTree, NoMemory};
+use gv_facts::{Level, Pkg, Profile};
+use gv_load::{LoadFault, Repo, load};
+use gv_usedefaults::{LineFile, Walk, default_on, defaults_of, kind_name, walk_files};
+use gv_visible::judged;
+use std::alloc::Global;
+
+/// Tells the answer to a call of this library, if it is one.
+pub(crate) fn answer(
+    alloc: Global,
+    call: &str,
+    given: &Given,
+    outside: &Outside,
+    told: &mut Telling,
+) -> Result<bool, NoMemory> {
+    if !matches!(call, "walked" | "line-defaults" | "flag-defaults") {
+        return Ok(false);
+    }
+    let mut tree = outside.tree(alloc)?;
+    let Ok(repo) = load(alloc, &mut tree) else {
+        told.say("no repository");
+        return Ok(true);
+    };
+    let mut tree = other_tree(alloc, call, given, outside)?;
+    match walk_over(alloc, &mut tree, &repo) {
+        Ok(walk) => tell(alloc, call, given, &repo, &walk, told)?,
+        Err(found) => fault(&found, told),
+    }
+    Ok(true)
+}
+
+fn other_tree(
+    alloc: Global,
+    call: &str,
+    given: &Given,
+    outside: &Outside,
+) -> Result<MemTree, NoMemory> {
+    if call == "walked" && !given.bytes(0).is_empty() {
+        outside.edited(alloc, given.bytes(0), given.bytes(1))
+    } else {
+        outside.tree(alloc)
+    }
+}
+
+fn walk_over(alloc: Global, tree: &mut MemTree, repo: &Repo) -> Result<Walk, LoadFault> {
+    let Walk { files, stacks } = walk_files(alloc, tree, repo)?;
+    let stacks = stacks.copy(alloc)?;
+    Ok(Walk { files, stacks })
+}
+
+fn tell(
+    alloc: Global,
+    call: &str,
+    given: &Given,
+    repo: &Repo,
+    walk: &Walk,
+    told: &mut Telling,
+) -> Result<(), NoMemory> {
+    match call {
+        "walked" => walked(alloc, walk, told),
+        "line-defaults" => line_defaults(alloc, given, repo, walk, told),
+        _ => flag_defaults(alloc, given, repo, walk, told),
+    }
+}
+
+// Each file with its directory, its kind and its length, and then the directories of each stack behind its line.
+fn walked(alloc: Global, walk: &Walk, told: &mut Telling) -> Result<(), NoMemory> {
+    for file in walk.files.items() {
+        add_file(&file.copy(alloc)?, told);
+    }
+    for stack in walk.stacks.items() {
+        told.number(u64::from(stack.line));
+        told.add(b" ");
+        told.joined(&stack.dirs, b' ');
+        told.say("; ");
+    }
+    Ok(())
+}
+
+fn add_file(file: &LineFile, told: &mut Telling) {
+    told.add(file.dir.bytes());
+    told.add(b" ");
+    told.add(kind_name(file.kind));
+    told.add(b" ");
+    told.add(file.path.bytes());
+    told.add(b" ");
+    told.number(file.bytes.bytes().len() as u64);
+    told.say("; ");
+}
+
+// USE, what is left of all flags, the variables of USE_EXPAND, and the words of package.use.
+fn line_defaults(
+    alloc: Global,
+    given: &Given,
+    repo: &Repo,
+    walk: &Walk,
+    told: &mut Telling,
+) -> Result<(), NoMemory> {
+    let defaults = defaults_of(alloc, repo, walk, given.small_number(0))?;
+    add_words(b"USE", defaults.on.words(), told);
+    add_words(b"left", defaults.kept.words(), told);
+    for list in defaults.expand.items() {
+        add_words(list.name.bytes(), &list.words, told);
+    }
+    for rule in defaults.rules.items() {
+        add_rule(alloc, rule, told)?;
+    }
+    Ok(())
+}
+
+// The defaults of flags, `-` before those that are off, of the package at a place in the profile at one, where it is judged.
+fn flag_defaults(
+    alloc: Global,
+    given: &Given,
+    repo: &Repo,
+    walk: &Walk,
+    told: &mut Telling,
+) -> Result<(), NoMemory> {
+    let (Some(pkg), Some(profile)) = (
+        repo.pkgs.items().get(given.small_number(0) as usize),
+        repo.profiles.items().get(given.small_number(1) as usize),
+    ) else {
+        told.say("none");
+        return Ok(());
+    };
+    match judged(pkg, profile) {
+        Some(level) => flags(alloc, given, repo, walk, (pkg, profile, level), told),
+        None => {
+            told.say("not judged");
+            Ok(())
+        }
+    }
+}
+
+fn flags(
+    alloc: Global,
+    given: &Given,
+    repo: &Repo,
+    walk: &Walk,
+    judged: (&Pkg, &Profile, Level),
+    told: &mut Telling,
+) -> Result<(), NoMemory> {
+    let (pkg, profile, level) = judged;
+    let defaults = defaults_of(alloc, repo, walk, profile.line)?;
+    for flag in given.from(2) {
+        if !default_on(pkg, profile, level, &defaults, flag) {
+            told.add(b"-");
+        }
+        told.add(flag.bytes());
+        told.add(b" ");
+    }
+    Ok(())
+}

@@ -1,0 +1,93 @@
+//! Calls of `gv_visible`.
+use crate::given::Given;
+use crate::made::{bare_profile, masks, member_of};
+use crate::written::Telling;
+use gv_base::NoMemory;
+use gv_facts::{Level, Pkg, Profile};
+use gv_visible::{BitList, MaskIndex, judged, visible};
+use std::alloc::Global;
+
+/// Tells the answer to a call of this library, if it is one.
+pub(crate) fn answer(
+    alloc: Global,
+    call: &str,
+    given: &Given,
+    told: &mut Telling,
+) -> Result<bool, NoMemory> {
+    match call {
+        "judged-at" => judged_at(alloc, given, told)?,
+        "bits" => bits(alloc, given.bytes(0), told)?,
+        _ => return Ok(false),
+    }
+    Ok(true)
+}
+
+fn shown_text(stable: bool, testing: bool) -> &'static str {
+    match (stable, testing) {
+        (true, true) => "both ",
+        (true, false) => "stable ",
+        (false, true) => "testing ",
+        (false, false) => "neither ",
+    }
+}
+
+fn level_text(level: Option<Level>) -> &'static str {
+    match level {
+        Some(Level::Stable) => "stable",
+        Some(Level::Testing) => "testing",
+        None => "none",
+    }
+}
+
+// At which levels CATEGORY/PF in slot 0/3 with these keywords is visible, and at which it is judged, where these masks stand
+// in a profile that takes its arch with `~` where `testing` follows.
+fn judged_at(alloc: Global, given: &Given, told: &mut Telling) -> Result<(), NoMemory> {
+    let mut lines = Telling::new(alloc);
+    lines.add(b"EAPI=8\nSLOT=0/3\nKEYWORDS=");
+    lines.add(given.bytes(2));
+    match member_of(alloc, given.bytes(0), given.bytes(1), lines.bytes()?)? {
+        Some(made) => levels(alloc, &made.pkg, &masked_profile(alloc, given)?, told)?,
+        None => told.say("no package"),
+    }
+    Ok(())
+}
+
+fn masked_profile(alloc: Global, given: &Given) -> Result<Profile, NoMemory> {
+    let mut profile = bare_profile(alloc)?;
+    profile.masks = masks(alloc, given.words(3))?;
+    profile.testing = given.words(4) == "testing";
+    Ok(profile)
+}
+
+// Asked by the profile, and by its index.
+fn levels(alloc: Global, pkg: &Pkg, profile: &Profile, told: &mut Telling) -> Result<(), NoMemory> {
+    let stable = visible(pkg, profile, Level::Stable);
+    let testing = visible(pkg, profile, Level::Testing);
+    told.say(shown_text(stable, testing));
+    let index = MaskIndex::new(alloc, profile)?;
+    told.say(level_text(judged(pkg, index.profile())));
+    let shown = index.shown(pkg);
+    let first = index.visible(pkg, Level::Stable);
+    let second = index.visible(pkg, Level::Testing);
+    let is_same = shown.stable == stable && shown.testing == testing;
+    if !is_same || first != stable || second != testing {
+        told.say(", otherwise by the index");
+    }
+    Ok(())
+}
+
+// The bits that are read back from the places of as many digits and one more.
+fn bits(alloc: Global, digits: &[u8], told: &mut Telling) -> Result<(), NoMemory> {
+    let mut bits = BitList::with_capacity(alloc, 1)?;
+    for digit in digits {
+        bits.push(*digit == b'1')?;
+    }
+    for place in 0..=digits.len() {
+        match bits.get(place) {
+            Some(true) => told.add(b"1"),
+            Some(false) => told.add(b"0"),
+            None => told.say(" none"),
+        }
+    }
+    Ok(())
+}

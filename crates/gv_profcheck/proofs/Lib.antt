@@ -1,0 +1,5 @@
+mod Examples
+pub mod Better
+pub mod LineSteps
+pub mod Nowhere
+pub mod Rests

@@ -1,0 +1,3 @@
+pub mod PrivateWords
+pub mod Redundant
+pub mod Unknown

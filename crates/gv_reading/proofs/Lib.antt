@@ -1,0 +1,3 @@
+pub mod Onces
+pub mod Readings
+pub mod SetLemmas

@@ -1,0 +1,8 @@
+pub mod Causes
+pub mod Faults
+pub mod Look
+pub mod NamedFiles
+pub mod Passing
+pub mod Paths
+pub mod Reader
+pub mod Reading

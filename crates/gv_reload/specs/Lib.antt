@@ -1,0 +1,10 @@
+pub mod Counting
+pub mod EditKeys
+pub mod EntriesPass
+pub mod EntryEdits
+pub mod Exchanged
+pub mod Interleaved
+pub mod Joined
+pub mod Once
+pub mod Replacing
+pub mod Rereading

@@ -1,0 +1,22 @@
+pub mod LastingLemmas
+pub mod RunLemmas
+pub mod MentionedLemmas
+pub mod MarkLemmas
+pub mod TouchedLemmas
+pub mod StaleLemmas
+pub mod DueLemmas
+pub mod Locality
+pub mod RenewalStale
+pub mod RenewalMembers
+pub mod RenewalTold
+pub mod RenewalQueries
+pub mod RenewalLimits
+pub mod RenewalLaw
+pub mod RenewLemmas
+pub mod AnewLemmas
+pub mod RenewingLaw
+pub mod Weaving
+pub mod PlaceLemmas
+pub mod WindowLemmas
+pub mod ExchangingLemmas
+mod Examples

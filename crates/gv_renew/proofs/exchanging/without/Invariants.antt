@@ -1,0 +1,12 @@
+use Rattle.std.proofs.Common.{◌≡◌, ◌+◌, ◌++◌, length}
+use Rattle.std.specs.Vec.Iter.{into_iter_items, into_iter_len}
+use Rattle.gv_renew.specs.Exchanging.{without}
+use Rattle.gv_renew.proofs.exchanging.without.Given as goal
+
+abbrev pub invariant-loop-report : goal.invariant-loop-report
+invariant-loop-report l =
+    (goal.iterator-loop-report).can_next l.report-iterator ×
+    (goal.iterator-loop-report).is_finite l.report-iterator ×
+    (into_iter_len l.report-iterator ≡ length (into_iter_items l.report-iterator)) ×
+    (l.place + length (into_iter_items l.report-iterator) ≡ l.end) ×
+    (l.kept.items ++ without l.place l.rest (into_iter_items l.report-iterator) ≡ without l.first l.places l.fn.reports.items)

@@ -1,0 +1,9 @@
+use Rattle.std.proofs.Common.{rules}
+use Rattle.std.proofs.lemmas.List.Sorted.{IsPartitionPoint-from_clause}
+use Rattle.gv_renew.specs.Lasting.{is_of}
+use Rattle.gv_renew.proofs.lasting.category_len.Goals as goal
+
+pub returns-clause-point : goal.returns-clause-point
+returns-clause-point c =
+    let test = is_of c.args.subject.now in
+    IsPartitionPoint-from_clause test c.args.rest.now c.partition_point.result c.partition_point.ensures.partitioned c.requires (λ a r f' k. search rules)

@@ -1,6 +1,0 @@
-use Rattle.std.proofs.Common.{◌≡◌, drop}
-use Rattle.gv_report.specs.Merging.{some_tied}
-use Rattle.gv_report.proofs.merging.some_tied.Given as goal
-
-abbrev pub invariant-loop-report : goal.invariant-loop-report
-invariant-loop-report l = some_tied l.kept (drop l.report-index l.fresh) ≡ some_tied l.kept l.fresh

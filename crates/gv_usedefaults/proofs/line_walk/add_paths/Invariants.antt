@@ -1,0 +1,5 @@
+use Rattle.std.proofs.Common.{◌≡◌, ◌++◌, drop}
+use Rattle.gv_usedefaults.proofs.line_walk.add_paths.Given as goal
+
+abbrev pub invariant-loop-path : goal.invariant-loop-path
+invariant-loop-path l = l.paths ++ drop l.path-index l.more ≡ l.fn.paths ++ l.more

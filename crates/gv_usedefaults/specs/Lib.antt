@@ -1,0 +1,14 @@
+pub mod Asked
+pub mod Defaults
+pub mod DirPlaces
+pub mod FlagWords
+pub mod Going
+pub mod LineFiles
+pub mod LineTurns
+pub mod PlaceMaps
+pub mod PrivateWords
+pub mod Reports
+pub mod Selected
+pub mod Stacks
+pub mod Walk
+pub mod WordSets

@@ -1,4 +1,0 @@
-use Rattle.gvis.proofs.run_script.run_over.Given as goal
-
-abbrev pub ghosts-run_on : goal.ghosts-run_on
-ghosts-run_on g a = record { name = a.blank.name; parts = a.blank.parts }
