@@ -59,7 +59,7 @@ def run(piece):
 
 
 def file(queries, answer):
-    return b"gviscert1\n" + b"".join(run(query) + run(answer) for query in queries)
+    return b"gviscert2\n" + b"".join(run(query) + run(answer) for query in queries)
 
 
 def main():

@@ -3,17 +3,17 @@
 
     core.py check      `check` on a log of 100,000 steps over 100,000 clauses
     core.py encode     `values` and `encode` on 100,000 gates of two operands
-    core.py solve      the solver on a question of 42 inputs, on 10,000 small ones, and on a random one of 60 inputs
-    core.py large [CHECKOUT ..]   the solver on random questions of 80 to 400 inputs, 20 seeds each, beside the solver of
+    core.py solve      the solver on a query of 42 inputs, on 10,000 small ones, and on a random one of 60 inputs
+    core.py large [CHECKOUT ..]   the solver on random queries of 80 to 400 inputs, 20 seeds each, beside the solver of
                        other checkouts and those of Debian's packages, in one run
     core.py beside PROGRAM .. [--seconds N] [--sizes INPUTS,GROUPS ..]
                        the same of programs that were built of `solve`'s source before; with other limits and sizes
 
 It copies the crates and a program that calls them into a folder of its own, has `rt run` prove and build that, runs it
-and prints what it says: microseconds, or for `solve` how many questions were refuted, found and spent. The questions
+and prints what it says: microseconds, or for `solve` how many queries were refuted, found and spent. The queries
 are the same at each run. `large` prints a row for each size and solver: how many of the 20 ended within five seconds
 of the processor, their median and greatest time of the processor, median conflicts, and for gvis median steps of the log;
-and of the questions that all programs of gvis ended, the seconds and the steps together.
+and of the queries that all programs of gvis ended, the seconds and the steps together.
 """
 import argparse
 import os
@@ -128,7 +128,7 @@ fn main(rt: HostRuntime) -> Result<(), Error> {
 }
 """
 
-SOLVE = """//! Solves the questions that come in, each its length in four bytes and the gates' bytes, and prints how many were
+SOLVE = """//! Solves the queries that come in, each its length in four bytes and the gates' bytes, and prints how many were
 //! refuted, found and spent, with the steps of all logs, the kept sets of those that were spent, and the inputs that
 //! are on where bits were found.
 #![tactic(auto)]
@@ -156,8 +156,8 @@ fn on(bits: &Bits) -> u64 {
 }
 
 // 0 refuted, 1 found, 2 spent; steps; sets; inputs that are on.
-fn one<L: Ledger>(alloc: Global, question: &[u8], steps: &mut Steps<L>) -> Result<[u64; 4], Error> {
-    let read = read_gates(alloc, question).ok().context("memory")?;
+fn one<L: Ledger>(alloc: Global, query: &[u8], steps: &mut Steps<L>) -> Result<[u64; 4], Error> {
+    let read = read_gates(alloc, query).ok().context("memory")?;
     let gates = read.context("no gates")?;
     let clauses = encode(alloc, &gates).ok().context("memory")?;
     let answer = solve(alloc, &gates, &clauses, 65536, steps).ok().context("memory")?;
@@ -260,7 +260,7 @@ def random_groups(draw, inputs, count):
     return all_of(inputs, [[2 * i + draw.randrange(2) for i in draw.sample(range(inputs), 3)] for _ in range(count)])
 
 
-def question(gates):
+def query(gates):
     return number(len(gates)) + gates
 
 
@@ -302,7 +302,7 @@ def beside(gates):
                 print(f"  {solver}: {said}: {time.perf_counter() - start:.3f} s")
 
 
-# seconds of the processor for one question
+# seconds of the processor for one query
 LIMIT = 5
 
 # inputs and groups of three: at the threshold of 4.3 groups an input, and below
@@ -328,7 +328,7 @@ def ended(command, limit, given=None):
 
 
 def by_gvis(program, gates, limit):
-    out = ended([program], limit, question(gates))
+    out = ended([program], limit, query(gates))
     if out is None:
         return None
     word = out[0].split()
@@ -368,22 +368,22 @@ def compare(programs, sizes=SIZES, limit=LIMIT):
     print("|---|---|---|---|---|---|---|")
     for inputs, groups in sizes:
         draw = random.Random(inputs * 10_000 + groups)
-        questions = [random_groups(draw, inputs, groups) for _ in range(20)]
+        queries = [random_groups(draw, inputs, groups) for _ in range(20)]
         said, own = {}, {}
         for name, solve in solvers:
-            answers = [solve(gates) for gates in questions]
+            answers = [solve(gates) for gates in queries]
             if name in dict(programs):
                 own[name] = answers
             for k, answer in enumerate(answers):
                 if answer and said.setdefault(k, answer[0]) != answer[0]:
-                    print(f"question {k} of {inputs} inputs: {name} says {answer[0]} and another {said[k]}")
+                    print(f"query {k} of {inputs} inputs: {name} says {answer[0]} and another {said[k]}")
             there = [a for a in answers if a]
             times = [a[1] for a in there]
             conflicts, steps = ([a[n] for a in there if a[n] is not None] for n in (2, 3))
             took = f"{median(times):.3f}, {max(times):.3f}" if times else "-"
             found = sum(a[0] == "found" for a in there)
             print(f"| {inputs}, {groups} | {name} | {len(there)} | {found} | {took} | {median(conflicts)} | {median(steps)} |", flush=True)
-        both = [k for k in range(len(questions)) if all(answers[k] for answers in own.values())]
+        both = [k for k in range(len(queries)) if all(answers[k] for answers in own.values())]
         for name, answers in own.items():
             seconds, steps = (sum(answers[k][n] for k in both) for n in (1, 3))
             print(f"{inputs}, {groups}: {name}: {len(both)} that all ended: {seconds:.2f} seconds, {steps} steps", flush=True)
@@ -410,14 +410,14 @@ def main(what, checkouts):
         else:
             deps = "gv_base gv_logic gv_encode gv_refute gv_solver anyhow"
             program = build(folder, SOLVE, {"proofs/main/Invariants.antt": SOLVE_PROOF}, deps)
-            small = b"".join(question(random_groups(draw, 6, 5)) for _ in range(10_000))
+            small = b"".join(query(random_groups(draw, 6, 5)) for _ in range(10_000))
             hard = random_groups(draw, 60, 258)
-            for name, questions, gates in (
-                ("42 inputs", question(pairs()), pairs()),
-                ("10,000 questions of 6 inputs and 5 groups", small, None),
-                ("60 inputs, 258 groups", question(hard), hard),
+            for name, queries, gates in (
+                ("42 inputs", query(pairs()), pairs()),
+                ("10,000 queries of 6 inputs and 5 groups", small, None),
+                ("60 inputs, 258 groups", query(hard), hard),
             ):
-                said, took = timed(program, questions)
+                said, took = timed(program, queries)
                 print(f"{name}: {said}: {took:.3f} s")
                 if gates:
                     beside(gates)

@@ -29,7 +29,7 @@ use gv_expr::{DepExpr, read_dep, read_required};
 use gv_facts::{Eapi, Effect, Mask, Masks, Pkg, Pkgs, Profile, Profiles, Rule, Rules, Status, ValueLists};
 use gv_load::{Bodies, Repo};
 use gv_profile::DescLines;
-use gv_report::{Keyword, Keywords, Options, Reports};
+use gv_report::{Keywords, Options, Reports, Takers};
 use gv_version::read_version;
 use std::alloc::Global;
 use std::io::Read;

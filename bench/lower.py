@@ -4,9 +4,9 @@
     lower.py
 
 30,000 packages in 100 categories, each with up to ten flags, a REQUIRED_USE and a handful of atoms; a profile with 2,000
-rules and 300 masks. The program lowers the query of REQUIRED_USE and that of RDEPEND of each package, over one index of names,
-one of masks and one list of what is visible, and prints how many gates the queries have together, how long it took in
-microseconds, and how much of that these three take. Where a C compiler and the
+rules and 300 masks. The program lowers the query of REQUIRED_USE and that of RDEPEND of each package, over one index of
+masks and one list of what is visible, and prints how many gates the queries have together, how long it took in
+microseconds, and how much of that these two take. Where a C compiler and the
 preloading of libraries are there, the allocations of a query are counted too: those of a run that lowers all queries
 twice, less those of one that lowers them once. The same input is made at each run.
 """
@@ -33,7 +33,7 @@ use gv_expr::{DepExpr, read_dep, read_required};
 use gv_facts::{Class, Eapi, Effect, Level, Mask, Masks, Pkg, Pkgs, Profile, Rule, Rules, Status, ValueLists};
 use gv_lower::{lower_allowed, lower_failing};
 use gv_version::read_version;
-use gv_visible::{Candidates, PkgIndex, VisiblePkgs, visible};
+use gv_visible::{Candidates, VisiblePkgs, visible};
 use std::alloc::Global;
 use std::io::Read;
 use std::marker::Brand;
@@ -107,23 +107,15 @@ fn lower_shown<L: Ledger>(alloc: Global, blank: Blank, shown: &VisiblePkgs<'_>, 
     lower_among::<L>(alloc, blank, &*shown, bodies)
 }
 
-fn lower_over<'a, L: Ledger>(alloc: Global, blank: Blank, index: &'a PkgIndex<'a>, profile: &'a Profile, bodies: &[Body]) -> Option<u64>
+fn lower_over<'a, L: Ledger>(alloc: Global, blank: Blank, pkgs: &'a Pkgs, profile: &'a Profile, bodies: &[Body]) -> Option<u64>
     requires name { blank.name ≡ L.name }
     requires parts { blank.parts ≡ L.parts }
     requires two { blank.parts ≡ 2 }
 {
-    let Ok(shown) = VisiblePkgs::new(alloc, index, profile) else {
+    let Ok(shown) = VisiblePkgs::new(alloc, pkgs, profile) else {
         return None;
     };
     lower_shown::<L>(alloc, blank, &shown, bodies)
-}
-
-fn lower_indexed<L: Ledger>(alloc: Global, blank: Blank, index: &PkgIndex<'_>, profile: &Profile, bodies: &[Body]) -> Option<u64>
-    requires name { blank.name ≡ L.name }
-    requires parts { blank.parts ≡ L.parts }
-    requires two { blank.parts ≡ 2 }
-{
-    lower_over::<L>(alloc, blank, &*index, &*profile, bodies)
 }
 
 fn lower_all<L: Ledger>(alloc: Global, blank: Blank, pkgs: &Pkgs, profile: &Profile, bodies: &[Body]) -> Option<u64>
@@ -131,28 +123,18 @@ fn lower_all<L: Ledger>(alloc: Global, blank: Blank, pkgs: &Pkgs, profile: &Prof
     requires parts { blank.parts ≡ L.parts }
     requires two { blank.parts ≡ 2 }
 {
-    let Ok(index) = PkgIndex::new(alloc, pkgs) else {
-        return None;
-    };
-    lower_indexed::<L>(alloc, blank, &index, profile, bodies)
+    lower_over::<L>(alloc, blank, &*pkgs, &*profile, bodies)
 }
 
-fn count_shown<'a>(alloc: Global, index: &'a PkgIndex<'a>, profile: &'a Profile) -> usize {
-    match VisiblePkgs::new(alloc, index, profile) {
+fn count_shown<'a>(alloc: Global, pkgs: &'a Pkgs, profile: &'a Profile) -> usize {
+    match VisiblePkgs::new(alloc, pkgs, profile) {
         Ok(shown) => shown.at(Level::Stable).len(),
         Err(_) => 0,
     }
 }
 
-fn shown_over(alloc: Global, index: &PkgIndex<'_>, profile: &Profile) -> usize {
-    count_shown(alloc, &*index, &*profile)
-}
-
-fn indexed(alloc: Global, pkgs: &Pkgs, profile: &Profile) -> usize {
-    match PkgIndex::new(alloc, pkgs) {
-        Ok(index) => shown_over(alloc, &index, profile),
-        Err(_) => 0,
-    }
+fn shown_all(alloc: Global, pkgs: &Pkgs, profile: &Profile) -> usize {
+    count_shown(alloc, &*pkgs, &*profile)
 }
 
 fn main(rt: HostRuntime) {
@@ -169,9 +151,9 @@ fn main(rt: HostRuntime) {
         let took = start.elapsed(&rt).ok().expect(&rt, "a clock").as_micros();
         let gates = gates.expect(&rt, "queries");
         let start = Instant::now(&rt).ok().expect(&rt, "a clock");
-        let made = indexed(alloc, &pkgs, &profile);
-        let index = start.elapsed(&rt).ok().expect(&rt, "a clock").as_micros();
-        let _ = println!(&rt; "{gates} gates: {took} microseconds, of which the index and what is visible of {made} packages take {index}");
+        let made = shown_all(alloc, &pkgs, &profile);
+        let asking = start.elapsed(&rt).ok().expect(&rt, "a clock").as_micros();
+        let _ = println!(&rt; "{gates} gates: {took} microseconds, of which what is visible of {made} packages takes {asking}");
     }
 }
 """

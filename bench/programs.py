@@ -28,26 +28,10 @@ fn text<R: Abort>(rt: &R, alloc: Global, bytes: &str) -> Text {
 """
 
 # options that select all reports
-OPTIONS = """const KEYWORDS: [Keyword; 13] = [
-    Keyword::ProfileError,
-    Keyword::ProfileNote,
-    Keyword::MetadataError,
-    Keyword::StaleCache,
-    Keyword::OrphanCache,
-    Keyword::MissingCache,
-    Keyword::NonexistentDeps,
-    Keyword::NonsolvableDepsInStable,
-    Keyword::NonsolvableDepsInDev,
-    Keyword::NonsolvableDepsInExp,
-    Keyword::UnsatisfiableRequiredUse,
-    Keyword::UnstatedIuse,
-    Keyword::VisibleVcsPkg,
-];
-
-fn options<R: Abort>(rt: &R, alloc: Global, json: bool) -> Options {
+OPTIONS = """fn options<R: Abort>(rt: &R, alloc: Global, json: bool) -> Options {
     let mut keywords = Keywords::new(alloc);
-    for keyword in KEYWORDS {
-        keywords.add(keyword).expect(rt, "memory");
+    for keyword in Takers::Judging.keywords() {
+        keywords.add(*keyword).expect(rt, "memory");
     }
     Options {
         keywords,

@@ -3,7 +3,7 @@
 
     refutations.py [FOLDER [PROGRAM]]
 
-Solves the twenty pairs and random questions of 40 to 100 inputs, and writes the clauses of each that is refuted as
+Solves the twenty pairs and random queries of 40 to 100 inputs, and writes the clauses of each that is refuted as
 DIMACS and its log as DRAT and as LRAT (into FOLDER, else into one that is removed again). PROGRAM, if it is named, was
 built of the source below before. The LRAT is judged by the
 checker that is proved in ACL2 (Debian's packages acl2 and acl2-books), the DRAT by `drat-trim`, each where it is on
@@ -21,7 +21,7 @@ import tempfile
 import core
 from programs import build
 
-SOURCE = """//! Solves the question that comes in and writes the steps of its refutation, each number in four bytes.
+SOURCE = """//! Solves the query that comes in and writes the steps of its refutation, each number in four bytes.
 #![tactic(auto)]
 
 ghost use Rattle.std.specs.Prelude.{◌≡◌};
@@ -196,13 +196,13 @@ def main(folder=None, program=None):
     good = True
     with tempfile.TemporaryDirectory() as made:
         program = program or build(made, SOURCE, {"proofs/main/Invariants.antt": core.SOLVE_PROOF}, deps)
-        questions = [("pairs", core.pairs())]
+        queries = [("pairs", core.pairs())]
         for inputs, groups in ((40, 172), (60, 258), (80, 344), (100, 430)):
             draw = random.Random(inputs)
-            questions += [(f"random-{inputs}-{n}", core.random_groups(draw, inputs, groups)) for n in range(8)]
+            queries += [(f"random-{inputs}-{n}", core.random_groups(draw, inputs, groups)) for n in range(8)]
         refuted = 0
         cut = os.path.join(made, "cut")
-        for name, gates in questions:
+        for name, gates in queries:
             steps = steps_in(subprocess.run([program], input=gates, capture_output=True).stdout)
             if steps and not refuted and shutil.which("acl2"):
                 write(cut, core.dimacs(gates), list(enumerate(steps))[1:])

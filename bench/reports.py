@@ -21,7 +21,7 @@ PROGRAM = """//! Orders and writes reports that come in, each a line `KEYWORD|SU
 
 use gv_base::Text;
 use gv_facts::{Class, Level, class_text};
-use gv_report::{ContextName, Emitter, Keyword, Keywords, Options, Report, Reports, Subject, ordered, selected};
+use gv_report::{ContextName, Emitter, Keyword, Keywords, Options, Report, Reports, Subject, Takers, ordered, selected};
 use gv_version::read_version;
 use std::alloc::Global;
 use std::io::Read;
@@ -48,9 +48,9 @@ fn number<R: Abort>(rt: &R, digits: &str) -> u32 {
 }
 
 fn keyword<R: Abort>(rt: &R, name: &str) -> Keyword {
-    for keyword in KEYWORDS {
+    for keyword in Takers::Judging.keywords() {
         if keyword.text() == name.as_bytes() {
-            return keyword;
+            return *keyword;
         }
     }
     rt.abort()

@@ -3,6 +3,7 @@
 
     scan.py GVIS FOLDER gentoo [PACKAGES [PROFILES]]
     scan.py GVIS FOLDER debian [PACKAGES]
+    scan.py GVIS FOLDER hard [PACKAGES [FLAGS]]
 
 FOLDER gets, unless it is there, a repository of that shape, the same for the same numbers, with an ebuild for each package:
 
@@ -11,6 +12,8 @@ FOLDER gets, unless it is there, a repository of that shape, the same for the sa
   packages and rules on flags.
 - debian: 63,440 packages in 60 categories, without flags, and one profile; a handful of dependencies each, of which a third
   are a `||` of two to four and half name a range of versions.
+- hard: 100 packages, each with a REQUIRED_USE of random groups of three of its 60 flags, 4.26 groups a flag, where about half can't
+  be met.
 
 Prints for three runs of a fresh scan, of a scan over its certificates and of `cat` the seconds that passed, those of the
 processor, and the peak of memory.
@@ -137,12 +140,29 @@ def make_debian(folder, packages):
         put_package(folder, name, version, {"KEYWORDS": "amd64", "RDEPEND": debian_class(draw, names)})
 
 
-def main(binary, folder, shape, packages=None, profiles=40):
+# ---- groups at the threshold
+
+def make_hard(folder, packages, flags):
+    draw = random.Random(7)
+    names = ["cat/name%d" % n for n in range(packages)]
+    uses = ["flag%d" % n for n in range(flags)]
+    put(folder, "profiles/base/eapi", "8\n")
+    put_lists(folder, names, ["amd64 base stable"])
+    for name in names:
+        threes = [draw.sample(uses, 3) for _ in range(flags * 426 // 100)]
+        groups = ["|| ( %s )" % " ".join(draw.choice(["", "!"]) + flag for flag in three) for three in threes]
+        values = {"IUSE": " ".join(uses), "REQUIRED_USE": " ".join(groups), "RDEPEND": "cat/none", "KEYWORDS": "amd64"}
+        put_package(folder, name, "1", values)
+
+
+def main(binary, folder, shape, packages=None, second=None):
     if not os.path.exists(folder):
         if shape == "gentoo":
-            make_gentoo(folder, int(packages or 30000), int(profiles))
-        else:
+            make_gentoo(folder, int(packages or 30000), int(second or 40))
+        elif shape == "debian":
             make_debian(folder, int(packages or 63440))
+        else:
+            make_hard(folder, int(packages or 100), int(second or 60))
     certs = folder.rstrip("/") + ".certs"
     measure("fresh scan", [binary, "scan", folder, "--fresh", "--certs", certs])
     measure("over its certificates", [binary, "scan", folder, "--certs", certs])
@@ -150,7 +170,7 @@ def main(binary, folder, shape, packages=None, profiles=40):
 
 
 if __name__ == "__main__":
-    most = {"gentoo": 6, "debian": 5}.get(sys.argv[3] if sys.argv[3:] else "", 0)
+    most = {"gentoo": 6, "debian": 5, "hard": 6}.get(sys.argv[3] if sys.argv[3:] else "", 0)
     if not 4 <= len(sys.argv) <= most or not all(word.isdigit() for word in sys.argv[4:]):
         sys.exit(__doc__)
     main(os.path.abspath(sys.argv[1]), *sys.argv[2:])

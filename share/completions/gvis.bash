@@ -2,21 +2,35 @@
 
 # The commands, and what may stand behind each.
 declare -gA _gvis_options=(
-    [scan]="--certs --fresh --json --keywords --profiles --budget"
+    [scan]="--certs --fresh --json --keywords --profiles --budget --part"
+    [merge]="--certs --from --of --json --keywords --profiles"
+    [overlay]="--repo --certs --fresh --json --keywords --profiles --budget"
     [verify]="--certs --report --json --keywords --profiles"
     [session]="--json --keywords --profiles --budget"
+    [lint]="--json --keywords --profiles"
     [demo]=""
 )
-_gvis_alone="help --help --version"
+_gvis_alone="help --help --version --prove"
 _gvis_keywords="ProfileError ProfileNote MetadataError StaleCache OrphanCache MissingCache NonexistentDeps
     NonsolvableDepsInStable NonsolvableDepsInDev NonsolvableDepsInExp UnsatisfiableRequiredUse UnstatedIuse VisibleVcsPkg"
+_gvis_lint_keywords="RequiredUseDefaults RedundantVersion UnknownProfilePackage"
 
-# The path words of a repository's profiles.
+# The path words of the profiles of repositories.
 _gvis_profiles() {
-    local arch path status rest
-    while read -r arch path status rest || [[ $arch ]]; do
-        [[ $arch$path == *#* || -z $status || $status == \#* ]] || printf '%s\n' "$path"
-    done 2>/dev/null <"$1/profiles/profiles.desc"
+    local folder arch path status rest
+    for folder; do
+        while read -r arch path status rest || [[ $arch ]]; do
+            [[ $arch$path == *#* || -z $status || $status == \#* ]] || printf '%s\n' "$path"
+        done 2>/dev/null <"$folder/profiles/profiles.desc"
+    done
+}
+
+# The folders in ROOT that have a layout.
+_gvis_repos() {
+    local file
+    for file in "$1"/*/metadata/layout.conf; do
+        [[ -f $file ]] && file=${file%/metadata/layout.conf} && printf '%s\n' "${file##*/}"
+    done
 }
 
 # Completes the last text of a list between commas; those before it aren't offered again.
@@ -83,8 +97,21 @@ _gvis() {
         compopt -o filenames
         mapfile -t COMPREPLY < <(compgen -f -P "$lead" -- "$value")
         ;;
-    --keywords) _gvis_list "$value" "$lead" "$_gvis_keywords" ;;
-    --profiles) _gvis_list "$value" "$lead" "$(_gvis_profiles "${root:-.}")" ;;
+    --from)
+        # (the files before stay, and the last one is completed)
+        compopt -o nospace
+        [[ $value == *,* ]] && lead=$lead${value%,*},
+        mapfile -t COMPREPLY < <(compgen -f -P "$lead" -- "${value##*,}")
+        ;;
+    --keywords)
+        if [[ ${words[0]} == lint ]]; then _gvis_list "$value" "$lead" "$_gvis_lint_keywords"; else _gvis_list "$value" "$lead" "$_gvis_keywords"; fi
+        ;;
+    --profiles)
+        local folders=("${root:-.}")
+        [[ ${words[0]} != overlay ]] || folders=("${root:-.}"/*/)
+        _gvis_list "$value" "$lead" "$(_gvis_profiles "${folders[@]}")"
+        ;;
+    --repo) COMPREPLY=($(compgen -P "$lead" -W "$(_gvis_repos "${root:-.}")" -- "$value")) ;;
     --budget) COMPREPLY=($(compgen -P "$lead" -W "65536 1000000" -- "$value")) ;;
     esac
 }
