@@ -52,7 +52,9 @@ class Setting:
         run([binary, "scan", self.root, "--certs", os.path.join(folder, "own"), "--part", f"{FORGED}/{PARTS}"])
         put(folder, "forgery", backing.file_of([(query, b"\0") for query, _ in backing.records(bytes_of(folder, "own"))]))
         put(folder, "bin/gvis", WRAPPER.format(folder=folder, binary=binary, parts=PARTS, killed=KILLED, forged=FORGED), 0o755)
-        self.how = {"env": dict(os.environ, PATH=os.path.join(folder, "bin") + ":" + os.environ["PATH"], LC_ALL="C"), "cwd": folder}
+        # (a login has HOME and SHELL, here and on a host, and a job of an automatic run may have neither)
+        env = {"PATH": os.path.join(folder, "bin") + ":" + os.environ["PATH"], "LC_ALL": "C", "HOME": folder, "SHELL": "/bin/sh"}
+        self.how = {"env": {**os.environ, **env}, "cwd": folder}
 
     def script(self, number):
         return put(self.folder, f"script{number}", blocks("sh")[number], 0o755)
