@@ -148,10 +148,6 @@ pub(crate) fn printed(
     reports: &Reports,
     told: &mut Telling,
 ) -> Result<(), NoMemory> {
-    if !reports.are_printable() {
-        told.say("> (not printable)\n");
-        return Ok(());
-    }
     let test = |report: &Report| selected(options, report);
     let text = Emitter::new(options, test).emit(alloc, reports)?;
     behind(text.bytes(), told);

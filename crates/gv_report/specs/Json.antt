@@ -11,6 +11,7 @@ use Rattle.gv_report.specs.declared.report.ContextName.{ContextName}
 use Rattle.gv_report.specs.declared.report.Report.{Report}
 use Rattle.gv_report.specs.Keyword.{keyword_text}
 use Rattle.gv_report.specs.Line.{level_text, package_text}
+use Rattle.gv_report.specs.Printable.{shown}
 
 -- `"` and `\` have a `\` before them
 abbrev pub escaped : ℕ → List ℕ
@@ -35,10 +36,13 @@ fields_text (f ∷ g ∷ fs) = field_text f ++ (codes "," ++ fields_text (g ∷ 
 abbrev pub object_text : List Field → List ℕ
 object_text fs = codes "{" ++ (fields_text fs ++ codes "}")
 
--- a part of the report, where it is there: a text, or a number
+-- a part of the report, where it is there: a text of this project's own, any text, or a number
 abbrev pub text_field : List ℕ → Option (List ℕ) → List Field
 text_field key None = []
 text_field key (Some text) = (key, quoted text) ∷ []
+
+abbrev pub shown_field : List ℕ → Option (List ℕ) → List Field
+shown_field key text = text_field key (option_map shown text)
 
 abbrev pub number_field : List ℕ → Option ℕ → List Field
 number_field key None = []
@@ -58,16 +62,16 @@ package_of (Package category name version pf) = Some (package_text category pf)
 
 abbrev pub report_fields : Report → List Field
 report_fields r =
-    text_field (codes "arch") (option_map (λ (c : ContextName). c.arch) r.context)
+    shown_field (codes "arch") (option_map (λ (c : ContextName). c.arch) r.context)
     ++ text_field (codes "class") (option_map class_text r.class)
-    ++ text_field (codes "detail") r.detail
+    ++ shown_field (codes "detail") r.detail
     ++ text_field (codes "keyword") (Some (keyword_text r.keyword))
     ++ text_field (codes "level") (option_map (λ (c : ContextName). level_text c.level) r.context)
     ++ number_field (codes "line") (line_of r.subject)
-    ++ text_field (codes "package") (package_of r.subject)
-    ++ text_field (codes "path") (path_of r.subject)
-    ++ text_field (codes "profile") (option_map (λ (c : ContextName). c.path) r.context)
-    ++ text_field (codes "use") r.witness
+    ++ shown_field (codes "package") (package_of r.subject)
+    ++ shown_field (codes "path") (path_of r.subject)
+    ++ shown_field (codes "profile") (option_map (λ (c : ContextName). c.path) r.context)
+    ++ shown_field (codes "use") r.witness
 
 abbrev pub report_json : Report → List ℕ
 report_json r = object_text (report_fields r) ++ codes "\n"

@@ -11,7 +11,6 @@ pub mod Order
 pub mod OrderTotal
 pub mod OrderedLaw
 pub mod Printable
-pub mod PrivateWords
 pub mod Rows
 pub mod SameReports
 pub mod SelectedLaw

@@ -1,10 +1,8 @@
 //! The text of reports, by a stored test that is known to answer which are selected.
 //!
 //! `emit` costs O(bytes of the reports, and of the options for each), and a call of the test for each report.
-ghost use Rattle.std.specs.Prelude.{◌≡◌, ◌++◌, true, IfOk, OnOk};
+ghost use Rattle.std.specs.Prelude.{◌≡◌, ◌++◌, IfOk, OnOk};
 ghost use Rattle.gv_report.specs.Emitted.{emitted, report_text};
-ghost use Rattle.gv_report.specs.Printable.{may_write};
-ghost use Rattle.gv_report.specs.PrivateWords.{may_write_one};
 ghost use Rattle.gv_report.specs.Selecting.{selected};
 ghost use Rattle.gv_report.specs.StoredTest.{AnswersSelected};
 ghost use Rattle.gv_report.specs.Emitter.{options_of, test_of};
@@ -39,7 +37,6 @@ fn append_report(
     report: &Report,
     text: &mut Text,
 ) -> Result<(), NoMemory>
-    requires { may_write_one json report.now ≡ true }
     ensures { OnOk result (text.new ≡ text.old ++ report_text json report.now) }
 {
     if json {
@@ -69,10 +66,9 @@ impl<'a, F: Fn(&Report) -> bool> Emitter<'a, F> {
     }
 
     /// The texts of the reports that the test takes, in the order of the list, each on a line of its own: JSON objects or
-    /// lines, as the options say. JSON objects are written of reports whose texts have bytes 0x20 to 0x7E alone.
+    /// lines, as the options say. JSON objects show `?` for each byte of a text that isn't one of 0x20 to 0x7E.
     pub fn emit(&self, alloc: Global, reports: &Reports) -> Result<Text, NoMemory>
         requires test { AnswersSelected (F.pre (test_of self.now)) (F.post (test_of self.now)) (options_of self.now) }
-        requires printable { may_write (options_of self.now).json reports.now ≡ true }
         ensures { IfOk result (λ text. text ≡ emitted (options_of self.now) reports.now) }
     {
         let mut text = Text::of(alloc, &[])?;

@@ -8,7 +8,7 @@
 //! - `order`: the order of reports. A comparison costs O(bytes up to the first part that differs) and takes no memory.
 //! - `distinct`: reports in order, equal ones once. O(n log n) comparisons of n reports.
 //! - `options`, `selecting`: which reports are selected.
-//! - `line`, `json`: the two texts of a report. O(bytes). `printable`: which reports may be written as JSON.
+//! - `line`, `json`: the two texts of a report. O(bytes). `printable`: which texts stand in JSON as they are.
 //! - `emitter`: the text of the reports that a stored test takes.
 //! - `laws`: what the definitions of the order and of lines come to.
 #![tactic(auto)]

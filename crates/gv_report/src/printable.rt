@@ -1,12 +1,12 @@
-//! Which reports have texts of bytes 0x20 to 0x7E alone. O(bytes), without memory.
-ghost use Rattle.std.specs.Prelude.{◌≡◌, true};
-ghost use Rattle.std.specs.Option.{option_map_or};
-ghost use Rattle.gv_report.specs.Printable.{are_printable, is_printable_context, is_printable_report, is_printable_subject, is_printable_text};
+//! Texts of bytes 0x20 to 0x7E alone, and how others are shown. O(bytes).
+ghost use Rattle.std.specs.Prelude.{◌≡◌, IfOk};
+ghost use Rattle.gv_report.specs.Printable.{is_printable_text, shown, shown_byte};
 
-use crate::{ContextName, Report, Reports, Subject};
-use gv_base::Text;
+use gv_base::{NoMemory, Text};
+use std::alloc::Global;
 
-fn is_printable_text(bytes: &[u8]) -> bool
+/// Whether the text has printable bytes alone. It takes no memory.
+pub(crate) fn is_printable_text(bytes: &[u8]) -> bool
     ensures { result ≡ is_printable_text bytes.now }
 {
     for byte in bytes {
@@ -17,61 +17,19 @@ fn is_printable_text(bytes: &[u8]) -> bool
     true
 }
 
-fn is_printable_part(part: &Option<Text>) -> bool
-    ensures { result ≡ option_map_or is_printable_text part.now true }
+fn shown_byte(byte: u8) -> u8
+    ensures { result ≡ shown_byte byte }
 {
-    match part {
-        None => true,
-        Some(text) => is_printable_text(text.bytes()),
-    }
+    if 31 < byte && byte < 127 { byte } else { b'?' }
 }
 
-fn is_printable_context(context: &Option<ContextName>) -> bool
-    ensures { result ≡ option_map_or is_printable_context context.now true }
+/// The text with `?` in place of each byte that isn't printable.
+pub(crate) fn shown(alloc: Global, bytes: &[u8]) -> Result<Text, NoMemory>
+    ensures { IfOk result (λ text. text ≡ shown bytes.now) }
 {
-    match context {
-        None => true,
-        Some(context) => {
-            is_printable_text(context.arch.bytes()) && is_printable_text(context.path.bytes())
-        }
+    let mut text = Text::of(alloc, &[])?;
+    for byte in bytes {
+        text.append(&[shown_byte(*byte)])?;
     }
-}
-
-fn is_printable_subject(subject: &Subject) -> bool
-    ensures { result ≡ is_printable_subject subject.now }
-{
-    match subject {
-        Subject::Place { path, .. } => is_printable_text(path.bytes()),
-        Subject::Package {
-            category,
-            name,
-            pf,
-            ..
-        } => {
-            is_printable_text(category.bytes())
-                && (is_printable_text(name.bytes()) && is_printable_text(pf.bytes()))
-        }
-    }
-}
-
-fn is_printable(report: &Report) -> bool
-    ensures { result ≡ is_printable_report report.now }
-{
-    is_printable_subject(&report.subject)
-        && (is_printable_context(&report.context)
-            && (is_printable_part(&report.witness) && is_printable_part(&report.detail)))
-}
-
-impl Reports {
-    /// Whether the texts of all reports have bytes 0x20 to 0x7E alone.
-    pub fn are_printable(&self) -> bool
-        ensures { result ≡ are_printable self.now }
-    {
-        for report in self.items() {
-            if !is_printable(report) {
-                return false;
-            }
-        }
-        true
-    }
+    Ok(text)
 }

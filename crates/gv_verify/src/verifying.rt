@@ -78,14 +78,10 @@ fn fault_of(fault: RecallFault) -> VerifyFault
     }
 }
 
-// The text of the reports that the options select. JSON is written of printable texts alone, as all reports of a loaded
-// repository have; where one weren't so, memory is said to be wanting.
+// The text of the reports that the options select.
 fn text_of(alloc: Global, options: &Options, reports: &Reports) -> Result<Text, NoMemory>
     ensures { IfOk result (λ text. text ≡ emitted options.now reports.now) }
 {
-    if options.json && !reports.are_printable() {
-        return Err(NoMemory);
-    }
     let test = |report: &Report| selected(options, report);
     Emitter::new(options, test).emit(alloc, reports)
 }

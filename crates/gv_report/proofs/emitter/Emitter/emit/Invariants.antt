@@ -1,11 +1,7 @@
-use Rattle.std.proofs.Common.{◌≡◌, ◌++◌, drop, true}
+use Rattle.std.proofs.Common.{◌≡◌, ◌++◌, drop}
 use Rattle.gv_report.specs.Emitted.{emitted}
-use Rattle.gv_report.specs.Printable.{may_write}
 use Rattle.gv_report.specs.Emitter.{options_of}
 use Rattle.gv_report.proofs.emitter.Emitter.emit.Given as goal
 
 abbrev pub invariant-loop-report : goal.invariant-loop-report
-invariant-loop-report g l = record {
-  text : l.text ++ emitted (options_of l.self) (drop l.report-index l.reports) ≡ emitted (options_of l.self) l.reports;
-  printable : may_write (options_of l.self).json (drop l.report-index l.reports) ≡ true;
-}
+invariant-loop-report g l = l.text ++ emitted (options_of l.self) (drop l.report-index l.reports) ≡ emitted (options_of l.self) l.reports
