@@ -23,6 +23,8 @@ pub(crate) struct Reading {
     pub(crate) values: BTreeMap<Vec<u8>, Text>,
     /// The line of the first assignment that isn't of the form.
     pub(crate) bad: Option<u32>,
+    /// What is left of `MAX_BYTES`.
+    pub(crate) room: usize,
 }
 
 /// Reads a file up to its first fault. A file with more lines than a number of a line can say, or whose values have more
@@ -40,6 +42,7 @@ pub(crate) fn read_file(alloc: Global, bytes: &[u8], before: &Vars) -> Result<Re
                 return Ok(Reading {
                     values,
                     bad: Some(line),
+                    room,
                 });
             }
             Some(len) => {
@@ -49,7 +52,11 @@ pub(crate) fn read_file(alloc: Global, bytes: &[u8], before: &Vars) -> Result<Re
             }
         }
     }
-    Ok(Reading { values, bad: None })
+    Ok(Reading {
+        values,
+        bad: None,
+        room,
+    })
 }
 
 // Sets the value of an assignment, whose bytes are taken off the room. How many bytes the item at the front of the rest

@@ -14,6 +14,7 @@ ghost use Rattle.gv_defaults.specs.Settings.{set_over};
 
 use crate::assigning::read_file;
 use crate::folding::with_words;
+use crate::room::MAX_BYTES;
 use crate::{Setting, Vars};
 use gv_base::{NoMemory, Text, in_order_law, map_law, tokens_of};
 use std::alloc::Global;
@@ -46,7 +47,7 @@ impl DefaultsRead {
 /// in order over those before, the value of another one replaces what it was.
 ///
 /// Want of memory is answered too where the values of the file would have more than 2^28 bytes together, each assignment
-/// counted, and where a line's number has no room.
+/// counted, where the room of `before` is spent, and where a line's number has no room.
 pub fn read_defaults(alloc: Global, bytes: &[u8], before: &Vars) -> Result<DefaultsRead, NoMemory>
     // Where the file is these parts, blanks, comments and assignments, up to its end or to the line of its fault.
     ensures vars_by { (parts : List Part) (bad : Option ℕ) → IsFile bytes.now parts bad → IfOk result (λ read. read.vars ≡ vars_by before.now parts) }
@@ -61,7 +62,8 @@ pub fn read_defaults(alloc: Global, bytes: &[u8], before: &Vars) -> Result<Defau
 {
     in_order_law();
     let reading = read_file(alloc, bytes, before)?;
-    let vars = fold_values(alloc, before, reading.values)?;
+    let mut vars = fold_values(alloc, before, reading.values)?;
+    vars.spend(MAX_BYTES.saturating_sub(reading.room))?;
     Ok(DefaultsRead {
         vars,
         bad: reading.bad,

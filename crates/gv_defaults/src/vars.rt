@@ -23,11 +23,13 @@ pub enum Setting {
     Plain { text: Text },
 }
 
-/// A finite map from name to words, where the name is incremental, or to a text.
+/// A finite map from name to words, where the name is incremental, or to a text. It carries what is left of the room of the files
+/// that are read one over the other.
 #[derive(Drop)]
 pub struct Vars {
     alloc: Global,
     map: BTreeMap<Vec<u8>, Setting>,
+    room: usize,
 }
 
 impl Model for Vars {
@@ -42,6 +44,13 @@ impl Model for Vars {
 }
 
 impl Setting {
+    fn size(&self) -> usize {
+        match self {
+            Setting::Words { words } => size_of(words.items()),
+            Setting::Plain { text } => text.bytes().len(),
+        }
+    }
+
     fn copy(&self, alloc: Global) -> Result<Setting, NoMemory>
         ensures { IfOk result (λ setting. setting ≡ self.now) }
     {
@@ -58,15 +67,61 @@ impl Setting {
     }
 }
 
+// The bytes of words, with a blank each.
+fn size_of(words: &[Text]) -> usize {
+    let mut size = 0_usize;
+    for word in words {
+        size = size.saturating_add(word.bytes().len()).saturating_add(1);
+    }
+    size
+}
+
 impl Vars {
     /// No variables.
     pub fn new(alloc: Global) -> Vars
         ensures { result ≡ finite.empty }
     {
+        Vars::within(alloc, usize::MAX)
+    }
+
+    /// No variables, and room for so many bytes of the files that are read one over the other: each file takes the bytes of the values
+    /// that it assigns and of all variables behind it. A file past the room is one for which there is no memory.
+    pub fn within(alloc: Global, room: usize) -> Vars
+        ensures { result ≡ finite.empty }
+    {
         Vars {
             alloc,
             map: BTreeMap::new(alloc),
+            room,
         }
+    }
+
+    /// The bytes that are left of the room.
+    pub fn room(&self) -> usize {
+        self.room
+    }
+
+    /// Takes what reading a file with values of so many bytes costs off the room.
+    pub(crate) fn spend(&mut self, assigned: usize) -> Result<(), NoMemory>
+        ensures { self.new ≡ self.old }
+    {
+        let spent = assigned.saturating_add(self.size());
+        if spent > self.room {
+            return Err(NoMemory);
+        }
+        self.room = self.room.saturating_sub(spent);
+        Ok(())
+    }
+
+    // The bytes of names and values.
+    fn size(&self) -> usize {
+        let mut size = 0_usize;
+        for (name, setting) in self.map.iter() {
+            size = size
+                .saturating_add(name.len())
+                .saturating_add(setting.size());
+        }
+        size
     }
 
     /// Just this variable, an incremental one, with these words.
@@ -98,7 +153,7 @@ impl Vars {
         ensures { IfOk result (λ vars. vars ≡ self.now) }
     {
         map_law::<Setting>();
-        let mut vars = Vars::new(alloc);
+        let mut vars = Vars::within(alloc, self.room);
         for (name, setting) in self.map.iter() {
             let name = Vec::from_slice(alloc, name)?;
             let setting = setting.copy(alloc)?;

@@ -8,7 +8,9 @@ ghost use Rattle.gv_load.specs.StackLimits.{is_no_memory, limit_of, limit_at, fi
 
 use gv_base::{NoMemory, Text};
 use gv_facts::{Profile, Profiles};
-use gv_profile::{DescLine, DescLines, Dirs, PlaceNote, PlaceNotes, ProfileFault, desc_path, fold};
+use gv_profile::{
+    DescLine, DescLines, Dirs, PlaceNote, PlaceNotes, ProfileFault, Room, desc_path, fold_within,
+};
 use gv_reading::{LoadFault, NamedFiles, within};
 use std::alloc::Global;
 
@@ -45,8 +47,9 @@ pub(crate) fn fold_lines(
         profiles: Profiles::new(alloc),
         errors: PlaceNotes::new(alloc),
     };
+    let mut room = Room::new();
     for line in lines.items() {
-        folds = match fold_line(alloc, dirs, first, line, folds) {
+        folds = match fold_line(alloc, dirs, first, line, folds, &mut room) {
             Ok(folds) => folds,
             Err(fault) => return Err(fault),
         };
@@ -173,13 +176,14 @@ fn fold_line(
     first: &NamedFiles,
     line: &DescLine,
     folds: Folds,
+    room: &mut Room,
 ) -> Result<Folds, LoadFault>
     ensures profiles { IfOk result (λ f. f.profiles ≡ folds.profiles ++ option_to_list (profile_at (finite.get dirs.now) first.now line.now)) }
     ensures errors { IfOk result (λ f. f.errors ≡ folds.errors ++ option_to_list (error_at (finite.get dirs.now) line.now)) }
     ensures passed { OnOk result (limit_at (finite.get dirs.now) line.now ≡ None) }
     ensures cause { IfErr result (LimitIs (limit_at (finite.get dirs.now) line.now)) }
 {
-    match fold(alloc, dirs, line, first) {
+    match fold_within(alloc, dirs, line, first, room) {
         Ok(profile) => match with_profile(folds, profile) {
             Ok(folds) => Ok(folds),
             Err(_) => Err(LoadFault::NoMemory),

@@ -7,6 +7,7 @@ ghost use Rattle.gv_profile.specs.FlagRules.{rule_of, line_rules, rules_among, r
 use crate::eapi::has_stable;
 use crate::flag_lines::{FlagLine, flag_line, flag_of, flag_words};
 use crate::lines::line_words;
+use crate::room::MAX_FLAGS;
 use crate::{DirFiles, NamedFiles};
 use gv_atom::Atom;
 use gv_base::{Cut, NoMemory, Text, next_piece};
@@ -123,6 +124,9 @@ fn add_words(
     ensures { OnOk result (rules.new ≡ rules.old ++ map (rule_of file atom.now) words.now) }
 {
     for word in words {
+        if rules.items().len() >= MAX_FLAGS {
+            return Err(NoMemory);
+        }
         rules.add(rule_of(alloc, file, atom, word.bytes())?)?;
     }
     Ok(())

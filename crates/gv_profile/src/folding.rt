@@ -12,7 +12,7 @@ ghost use Rattle.gv_profile.specs.Names.{accept_keywords, iuse_implicit, use_exp
 
 use crate::flag_rules::add_dir_rules;
 use crate::mask_lines::{MaskLines, add_mask_lines, masks_of};
-use crate::{DescLine, DirFiles, Dirs, NamedFiles};
+use crate::{DescLine, DirFiles, Dirs, NamedFiles, Room};
 use gv_base::{NoMemory, Text, Texts};
 use gv_defaults::{Vars, read_defaults};
 use gv_facts::{Profile, Rules, ValueList, ValueLists, has_testing};
@@ -44,11 +44,12 @@ pub(crate) fn with_masks(
 }
 
 /// Before the first directory there are the repository's own masks.
-pub(crate) fn start(alloc: Global, first: &NamedFiles) -> Result<Folded, NoMemory>
+pub(crate) fn start(alloc: Global, first: &NamedFiles, room: &mut Room) -> Result<Folded, NoMemory>
     ensures { IfOk result (λ folded. folded ≡ start first.now) }
 {
+    room.begin(first)?;
     let nothing = Folded {
-        vars: Vars::new(alloc),
+        vars: Vars::within(alloc, room.values),
         lines: MaskLines::new(alloc),
         rules: Rules::new(alloc),
     };
@@ -61,10 +62,11 @@ pub(crate) fn with_dir(
     dirs: &Dirs,
     folded: Folded,
     dir: &Text,
+    room: &mut Room,
 ) -> Result<Folded, NoMemory>
     ensures { IfOk result (λ after. after ≡ with_dir (finite.get dirs.now) folded dir.now) }
 {
-    with_files(alloc, folded, dirs.get(dir.bytes()))
+    with_files(alloc, folded, dirs.get(dir.bytes()), room)
 }
 
 /// The profile of a line whose whole stack was folded.
@@ -72,10 +74,14 @@ pub(crate) fn profile_with(
     alloc: Global,
     line: &DescLine,
     folded: Folded,
+    room: &mut Room,
 ) -> Result<Profile, NoMemory>
     ensures { IfOk result (λ profile. profile ≡ profile_with line.now folded) }
 {
     let Folded { vars, lines, rules } = folded;
+    let masks = masks_of(alloc, lines)?;
+    room.values = vars.room();
+    room.keep(rules.items().len().saturating_add(masks.items().len()))?;
     let expand_implicit = use_expand_implicit(alloc, &vars)?;
     let values = value_lists(alloc, &vars, &expand_implicit)?;
     Ok(Profile {
@@ -89,7 +95,7 @@ pub(crate) fn profile_with(
         expand_implicit,
         unprefixed: use_expand_unprefixed(alloc, &vars)?,
         values,
-        masks: masks_of(alloc, lines)?,
+        masks,
         rules,
     })
 }
@@ -106,7 +112,12 @@ fn vars_with(alloc: Global, vars: Vars, defaults: &Option<Text>) -> Result<Vars,
     }
 }
 
-fn with_files(alloc: Global, folded: Folded, files: Option<&DirFiles>) -> Result<Folded, NoMemory>
+fn with_files(
+    alloc: Global,
+    folded: Folded,
+    files: Option<&DirFiles>,
+    room: &mut Room,
+) -> Result<Folded, NoMemory>
     ensures { IfOk result (λ after. after ≡ with_files folded (option_copied files.entry)) }
 {
     match files {
@@ -116,6 +127,7 @@ fn with_files(alloc: Global, folded: Folded, files: Option<&DirFiles>) -> Result
                 mut lines,
                 mut rules,
             } = folded;
+            room.visit(files)?;
             let vars = vars_with(alloc, vars, &files.defaults)?;
             add_mask_lines(alloc, &mut lines, &files.package_mask)?;
             add_dir_rules(alloc, &mut rules, files)?;

@@ -7,6 +7,7 @@
 //! - `mask_lines`, `flag_lines`: which lines of a mask or flag file are good, and what they say.
 //! - `flag_rules`, `folding`: what the files of one directory add to what a stack comes to.
 //! - `frames`, `walking`, `profiles`: the walk of a stack, without recursion; the stack and the profile of a line.
+//! - `room`: what the stacks of a load may visit and keep.
 //! - `bad_lines`: the bad lines of a directory.
 //! - `laws`: what stacks, masks and rules on flags come to, in a maintainer's words.
 //!
@@ -31,6 +32,7 @@ mod notes;
 mod parent_files;
 mod paths;
 mod profiles;
+mod room;
 mod walking;
 
 pub use bad_lines::{dir_notes, mask_notes};
@@ -46,5 +48,6 @@ pub use lines::{line_words, next_number};
 pub use mask_lines::file_atom;
 pub use notes::{PlaceNote, PlaceNotes};
 pub use parent_files::{ParentLine, ParentLines, parents};
-pub use profiles::{fold, line_dir, stack, top_dir, word_dir};
+pub use profiles::{fold, fold_within, line_dir, stack, top_dir, word_dir};
+pub use room::Room;
 pub use walking::parents_of;
