@@ -16,7 +16,7 @@ import sys
 import tempfile
 
 EMPTY = hashlib.md5(b"").hexdigest()
-MEMORY = 1 << 30
+MEMORY = 4 << 30
 
 
 def profiles(lines="amd64 base stable\n", categories="app\nx\n"):
