@@ -6,7 +6,7 @@
 FOLDER gets, unless it is there, a copy of TREE as a repository of git: a commit of all files, and one with another atom in ten entries,
 drawn by a fixed number. In each of ROUNDS (5) the checkout of the first commit is scanned, and the push of the second one judged. Prints
 the seconds by the clock and of the processor, and last the medians and the hook's parts of the scan's. The hook's first call, which makes
-the checkout, isn't counted.
+the checkout, isn't counted. The scan has the environment as it is; the hook asks for large pages besides.
 """
 import os
 import random
