@@ -40,7 +40,7 @@ class Words:
         self.of_scan, self.of_lint = (re.findall(r"keywords\.(\w+)", takers[name]) for name in ("Judging", "Linting"))
         values = definitions("gv_words/specs/Values.antt")
         self.budget = re.search(r"budget_of None = Some (\d+)\nbudget_of .* = number_in (\d+) (\d+)", values).groups()
-        endings = definitions("gv_run/specs/Endings.antt")
+        endings = definitions("gv_ending/specs/Endings.antt")
         self.statuses = sorted({int(n) for n in re.findall(r"^refusal_status .* = (\d+)$", endings, re.M)} | {0, 1})
 
     def words(self, name, root="/nowhere"):

@@ -9,7 +9,7 @@ use Rattle.gv_report.specs.declared.options.Options.{Options}
 use Rattle.gv_report.specs.declared.report.Report.{Report}
 use Rattle.gv_checks.specs.Answered.{IsJudged}
 use Rattle.gv_checks.specs.Answers.{AreAnswers}
-use Rattle.gv_checks.specs.Cases.{members}
+use Rattle.gv_plain.specs.Cases.{members}
 use Rattle.gv_checks.specs.Certs.{AreCerts, CountsAtMost, counts_after, new_count}
 use Rattle.gv_checks.specs.Chosen.{chosen, told_chosen}
 use Rattle.gv_checks.specs.Limits.{Refuses, RefusesFirst}
@@ -17,12 +17,14 @@ use Rattle.gv_checks.specs.Progress.{IsAt, IsSomewhere, Outset, Stops}
 use Rattle.gv_checks.specs.Queries.{Query, gates_of, queries}
 use Rattle.gv_checks.specs.Recalled.{IsRecalled, NotRecalls}
 use Rattle.gv_checks.specs.Views.{Walk}
-use Rattle.gv_checks.specs.Plain.{told_member}
-use Rattle.gv_checks.specs.RepoReports.{plain_reports, query_report, reports, scan_reports}
+use Rattle.gv_plain.specs.Plain.{told_member}
+use Rattle.gv_plain.specs.Telling.{ToldLaw}
+use Rattle.gv_plain.specs.PlainReports.{plain_reports}
+use Rattle.gv_checks.specs.RepoReports.{query_report, reports, scan_reports}
 use Rattle.gv_checks.specs.declared.chosen.Chosen.TheVariants.{All}
 use Rattle.gv_checks.specs.declared.fault.JudgeFault.{JudgeFault}
 use Rattle.gv_checks.specs.declared.fault.JudgeFault.TheVariants as judging
-use Rattle.gv_checks.specs.declared.fault.JudgeFault.TheVariants.{Spent, Limit}
+use Rattle.gv_checks.specs.declared.fault.JudgeFault.TheVariants.{Limit, Spent}
 use Rattle.gv_checks.specs.declared.names.QueryName.{QueryName}
 use Rattle.gv_checks.specs.declared.recalled.RecallFault.TheVariants as recalling
 use Rattle.gv_checks.specs.declared.recalled.RecallFault.TheVariants.{NotBacked}
@@ -33,7 +35,6 @@ use Rattle.gv_checks.specs.declared.walking.Answers.{Answers}
 use Rattle.gv_load.specs.declared.loading.Repo.{Repo}
 use Rattle.gv_checks.proofs.ChosenLemmas.{all_chosen, all_told_of}
 use Rattle.gv_checks.proofs.CountLemmas.{at_most, new_few}
-use Rattle.gv_checks.proofs.PlainLemmas.{all_told}
 use Rattle.gv_checks.proofs.SelectedLemmas.{all_selected}
 
 none_counted : (c : Counts) → c ≡ counts_after c 0 []
@@ -76,12 +77,12 @@ answers b given qs start now p a at reports certs queries = record {
 }
 
 -- what is reported, with whatever budget
-module _ (o : Options) (b : ℕ) (given : List KnownRecord) (repo : Repo) (start now : Counts) (a : Answers) (plain : List Report) (is_plain : plain ≡ told_chosen All o repo) (are : AreAnswers b given (chosen All (queries o repo)) start now a) where
+module _ (told_law : (o : Options) (repo : Repo) → ToldLaw o repo) (o : Options) (b : ℕ) (given : List KnownRecord) (repo : Repo) (start now : Counts) (a : Answers) (plain : List Report) (is_plain : plain ≡ told_chosen All o repo) (are : AreAnswers b given (chosen All (queries o repo)) start now a) where
   whole : AreAnswers b given (queries o repo) start now a
   whole = subst (λ qs. AreAnswers b given qs start now a) (all_chosen 0 (queries o repo)) are
 
   told_is : filter (selected o) repo.notes ++ plain ≡ filter (selected o) (plain_reports repo)
-  told_is = ap (λ rs. filter (selected o) repo.notes ++ rs) (is_plain ∙ all_told_of o repo) ∙ sym (all_told o repo)
+  told_is = ap (λ rs. filter (selected o) repo.notes ++ rs) (is_plain ∙ all_told_of o repo) ∙ sym (told_law o repo).all
 
   reports_all : (reports : List Report) → reports ≡ ordered ((filter (selected o) repo.notes ++ plain) ++ a.reports) → reports ≡ scan_reports o repo
   reports_all reports e = e ∙ ap ordered (ap (λ rs. rs ++ a.reports) told_is ∙ (ap (λ rs. filter (selected o) (plain_reports repo) ++ rs) whole.reports_are ∙ all_selected o repo))
@@ -115,8 +116,8 @@ module _ (o : Options) (b : ℕ) (given : List KnownRecord) (repo : Repo) (start
   }
 
 -- a scan's reports in three parts: notes, what is told of packages, and what is told of queries
-pub in_parts : (o : Options) (repo : Repo) → filter (selected o) (reports repo) ≡ (filter (selected o) repo.notes ++ flat_map (told_member o repo) (members repo)) ++ filter_map query_report (queries o repo)
-in_parts o repo = sym (all_selected o repo) ∙ ap (λ rs. rs ++ filter_map query_report (queries o repo)) (all_told o repo)
+pub in_parts : (told_law : (o : Options) (repo : Repo) → ToldLaw o repo) (o : Options) (repo : Repo) → filter (selected o) (reports repo) ≡ (filter (selected o) repo.notes ++ flat_map (told_member o repo) (members repo)) ++ filter_map query_report (queries o repo)
+in_parts told_law o repo = sym (all_selected o repo) ∙ ap (λ rs. rs ++ filter_map query_report (queries o repo)) (told_law o repo).all
 
 -- at most one is lowered, and one solved, for each query
 module _ (b : ℕ) (given : List KnownRecord) (qs : List Query) (start now : Counts) (a : Answers) (are : AreAnswers b given qs start now a) where
@@ -164,7 +165,7 @@ past_limit given queries count place number s = record {
 }
 
 -- over a walk of the repository
-module _ (w : Walk) (o : Options) (repo : Repo) (same : w ≡ record { repo = repo; options = o }) (b : ℕ) (given : List KnownRecord) (start now : Counts) (a : Answers) (plain : List Report)
+module _ (told_law : (o : Options) (repo : Repo) → ToldLaw o repo) (w : Walk) (o : Options) (repo : Repo) (same : w ≡ record { repo = repo; options = o }) (b : ℕ) (given : List KnownRecord) (start now : Counts) (a : Answers) (plain : List Report)
     (told : plain ≡ told_chosen All w.options w.repo) (are : AreAnswers b given (chosen All (queries w.options w.repo)) start now a) where
   told_here : plain ≡ told_chosen All o repo
   told_here = told ∙ ap (λ (v : Walk). told_chosen All v.options v.repo) same
@@ -173,10 +174,10 @@ module _ (w : Walk) (o : Options) (repo : Repo) (same : w ≡ record { repo = re
   are_here = subst (λ (v : Walk). AreAnswers b given (chosen All (queries v.options v.repo)) start now a) same are
 
   pub ends_over : b ≡ o.budget → (j : Judged) → j.reports ≡ ordered ((filter (selected o) repo.notes ++ plain) ++ a.reports) → j.certs ≡ a.certs → j.queries ≡ a.queries → IsJudged o given repo start now j
-  ends_over = ends o b given repo start now a plain told_here are_here
+  ends_over = ends told_law o b given repo start now a plain told_here are_here
 
   pub recalled_over : b ≡ 0 → (r : Recalled) → r.reports ≡ ordered ((filter (selected o) repo.notes ++ plain) ++ a.reports) → r.certs ≡ a.certs → r.queries ≡ a.queries → IsRecalled o given repo r
-  recalled_over = recalled o b given repo start now a plain told_here are_here
+  recalled_over = recalled told_law o b given repo start now a plain told_here are_here
 
 pub counted_over : (w : Walk) (o : Options) (repo : Repo) → w ≡ record { repo = repo; options = o } → (start now : Counts)
     → CountsAtMost (length (chosen All (queries w.options w.repo))) start now → CountsAtMost (length (queries o repo)) start now

@@ -4,21 +4,21 @@ use Rattle.std.specs.Prelude.{flat_map, filter_map, if◌then◌else◌, option_
 use Rattle.std.specs.List.{AllByRecursion, cons_option}
 use Rattle.std.proofs.lemmas.Bool.{false≢true}
 use Rattle.gv_facts.specs.declared.kinds.Class.{Class}
-use Rattle.gv_facts.specs.declared.kinds.Class.TheVariants.{Required, Depend, Bdepend, Rdepend, Pdepend, Idepend}
+use Rattle.gv_facts.specs.declared.kinds.Class.TheVariants.{Bdepend, Depend, Idepend, Pdepend, Rdepend, Required}
 use Rattle.gv_facts.specs.declared.kinds.Level.{Level}
 use Rattle.gv_facts.specs.Visible.{judged}
 use Rattle.gv_facts.specs.declared.pkg.Pkg.{Pkg}
 use Rattle.gv_facts.specs.declared.profile.Profile.{Profile}
 use Rattle.gv_report.specs.declared.options.Options.{Options}
 use Rattle.gv_load.specs.declared.loading.Repo.{Repo}
-use Rattle.gv_checks.specs.Cases.{Case, Member, case_at, case_in, members}
+use Rattle.gv_plain.specs.Cases.{Case, Member, case_at, case_in, members}
 use Rattle.gv_checks.specs.Chosen.{chosen_from, has, has_class, has_in, is_chosen, is_none, is_none_in, is_own, is_passed, told_chosen, told_of}
-use Rattle.gv_checks.specs.Classes.{classes}
-use Rattle.gv_checks.specs.Plain.{told_member}
+use Rattle.gv_plain.specs.Classes.{classes}
+use Rattle.gv_plain.specs.Plain.{told_member}
 use Rattle.gv_checks.specs.Queries.{Query, case_queries, class_queries, is_asked, query_of}
 use Rattle.gv_checks.specs.Walks.{Parts}
 use Rattle.gv_checks.specs.declared.chosen.Chosen.{Chosen}
-use Rattle.gv_checks.specs.declared.chosen.Chosen.TheVariants.{All, Packages, Classes, Part}
+use Rattle.gv_checks.specs.declared.chosen.Chosen.TheVariants.{All, Classes, Packages, Part}
 use Rattle.gv_checks.specs.declared.chosen.ClassSet.{ClassSet}
 
 -- ---- of two lists

@@ -6,11 +6,11 @@ use Rattle.gv_expr.specs.DepRead.{read_dep}
 use Rattle.gv_expr.specs.RequiredRead.{read_required}
 use Rattle.gv_entry.specs.declared.entry.Body.{Body}
 use Rattle.gv_facts.specs.declared.kinds.Class.{Class}
-use Rattle.gv_facts.specs.declared.kinds.Class.TheVariants.{Required, Depend, Bdepend, Rdepend, Pdepend, Idepend}
+use Rattle.gv_facts.specs.declared.kinds.Class.TheVariants.{Bdepend, Depend, Idepend, Pdepend, Rdepend, Required}
 use Rattle.gv_facts.specs.declared.kinds.Eapi.{Eapi}
-use Rattle.gv_facts.specs.declared.kinds.Eapi.TheVariants.{Six, Eight}
+use Rattle.gv_facts.specs.declared.kinds.Eapi.TheVariants.{Eight, Six}
 use Rattle.gv_facts.specs.declared.kinds.Status.{Status}
-use Rattle.gv_facts.specs.declared.kinds.Status.TheVariants.{Stable, Dev, Exp}
+use Rattle.gv_facts.specs.declared.kinds.Status.TheVariants.{Dev, Exp, Stable}
 use Rattle.gv_facts.specs.declared.pkg.Pkg.{Pkg}
 use Rattle.gv_facts.specs.declared.profile.Profile.{Profile}
 use Rattle.gv_load.specs.declared.loading.Repo.{Repo}
@@ -20,7 +20,7 @@ use Rattle.gv_report.specs.declared.keyword.Keyword.{Keyword}
 use Rattle.gv_report.specs.declared.keyword.Keyword.TheVariants as keywords
 use Rattle.gv_report.specs.declared.options.Options.{Options}
 use Rattle.gv_report.specs.declared.report.Report.{Report}
-use Rattle.gv_checks.specs.Cases.{Case, case_at, cases}
+use Rattle.gv_plain.specs.Cases.{Case, case_at, cases}
 use Rattle.gv_checks.specs.Certs.{first_uses}
 use Rattle.gv_checks.specs.Chosen.{chosen}
 use Rattle.gv_checks.specs.Queries.{Query, gates_of, queries, query_of}

@@ -8,7 +8,7 @@ use Rattle.gv_facts.specs.Visible.{judged}
 use Rattle.gv_facts.specs.declared.pkg.Pkg.{Pkg}
 use Rattle.gv_facts.specs.declared.profile.Profile.{Profile}
 use Rattle.gv_report.specs.declared.options.Options.{Options}
-use Rattle.gv_checks.specs.Cases.{Case, Member, case_at, case_in}
+use Rattle.gv_plain.specs.Cases.{Case, Member, case_at, case_in}
 use Rattle.gv_checks.specs.Chosen.{chosen_from, is_chosen, is_passed}
 use Rattle.gv_checks.specs.Progress.{Judges}
 use Rattle.gv_checks.specs.Queries.{Query, case_asks, case_queries, class_queries, is_asked, query_of}

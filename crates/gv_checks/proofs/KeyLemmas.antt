@@ -5,7 +5,7 @@ use Rattle.gv_entry.specs.Queries.{class_in}
 use Rattle.gv_entry.specs.declared.entry.Body.{Body}
 use Rattle.gv_expr.specs.Dep.{Dep}
 use Rattle.gv_facts.specs.declared.kinds.Class.{Class}
-use Rattle.gv_facts.specs.declared.kinds.Class.TheVariants.{Required, Depend, Bdepend, Rdepend, Pdepend, Idepend}
+use Rattle.gv_facts.specs.declared.kinds.Class.TheVariants.{Bdepend, Depend, Idepend, Pdepend, Rdepend, Required}
 use Rattle.gv_facts.specs.declared.kinds.Level.{Level}
 use Rattle.gv_facts.specs.declared.pkg.Pkg.{Pkg}
 use Rattle.gv_facts.specs.declared.profile.Profile.{Profile}
@@ -13,12 +13,12 @@ use Rattle.gv_lower.specs.Around.{alone}
 use Rattle.gv_lower.specs.Keys.{class_key, required_key}
 use Rattle.gv_lower.specs.Sites.{ClassSites, RequiredFlags}
 use Rattle.gv_usestate.specs.Kinds.{IsOneOf}
-use Rattle.gv_checks.specs.Context.{case_of}
+use Rattle.gv_plain.specs.Context.{case_of}
 use Rattle.gv_checks.specs.Alike.{first_at}
 use Rattle.gv_checks.specs.Keys.{ArePartsOf, AreSitesOf, HasSites, flags_in, own_sites, sites_at, sites_in}
 use Rattle.gv_checks.specs.Queries.{query_of}
 use Rattle.gv_checks.specs.Shared.{asked_key, key_of}
-use Rattle.gv_checks.specs.declared.context.JudgedPkg.{JudgedPkg}
+use Rattle.gv_plain.specs.declared.context.JudgedPkg.{JudgedPkg}
 use Rattle.gv_checks.specs.declared.keys.PkgSites.{PkgSites}
 
 -- what an option that was made of another one tells of it

@@ -12,12 +12,10 @@ pub mod SelectedLemmas
 pub mod AllLemmas
 pub mod NamedLemmas
 pub mod KnownLemmas
-pub mod PlainLemmas
 pub mod PackagesLemmas
 pub mod LowerLemmas
 pub mod SharedLemmas
 pub mod OneLemmas
 pub mod KeyLemmas
-pub mod ViewLemmas
 pub mod RecordsLaw
 mod Examples

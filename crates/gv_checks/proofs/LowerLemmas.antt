@@ -18,10 +18,11 @@ use Rattle.gv_lower.specs.declared.query.LowerFault.{LowerFault}
 use Rattle.gv_lower.specs.declared.query.Query.{Query}
 use Rattle.gv_visible.specs.Candidates.{Candidates, pkgs_of}
 use Rattle.gv_checks.specs.Asked.{asked_flags, asked_gates, asked_items, asked_preferred, asked_weight}
-use Rattle.gv_checks.specs.Classes.{is_whole}
-use Rattle.gv_checks.specs.Context.{AreAround, case_of}
+use Rattle.gv_plain.specs.Classes.{is_whole}
+use Rattle.gv_checks.specs.Around.{AreAround}
+use Rattle.gv_plain.specs.Context.{case_of}
 use Rattle.gv_checks.specs.Queries.{flags_of, gates_of, has_query, items_of, preferred_of, query_of, required_of, weight_of}
-use Rattle.gv_checks.specs.declared.context.JudgedPkg.{JudgedPkg}
+use Rattle.gv_plain.specs.declared.context.JudgedPkg.{JudgedPkg}
 
 abbrev AskedLowered : Parent → List Req → Option (List Dep) → Result Query LowerFault → Type 0
 AskedLowered c required class r = Lowered (asked_flags c required class) (asked_weight c required class) (IsQuery (asked_gates c required class) (asked_flags c required class) (asked_items c required class) (asked_preferred c required class)) r

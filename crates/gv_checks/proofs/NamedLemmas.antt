@@ -16,12 +16,12 @@ use Rattle.gv_facts.specs.declared.profile.Profile.{Profile}
 use Rattle.gv_facts.specs.Visible.{judged}
 use Rattle.gv_report.specs.declared.options.Options.{Options}
 use Rattle.gv_checks.specs.Answered.{AnswersOne}
-use Rattle.gv_checks.specs.Cases.{Case, Member, case_at, case_in, cases_of, members_from}
-use Rattle.gv_checks.specs.Classes.{classes}
+use Rattle.gv_plain.specs.Cases.{Case, Member, case_at, case_in, cases_of, members_from}
+use Rattle.gv_plain.specs.Classes.{classes}
 use Rattle.gv_checks.specs.Named.{AnswersNamed, HasNamed, IsNamed, IsNamedIn}
 use Rattle.gv_checks.specs.Queries.{Query, case_queries, has_query, is_asked, is_selected, queries, query_name, query_of}
 use Rattle.gv_checks.specs.declared.fault.JudgeFault.{JudgeFault}
-use Rattle.gv_checks.specs.declared.fault.JudgeFault.TheVariants.{Spent, Limit, NoMemory}
+use Rattle.gv_checks.specs.declared.fault.JudgeFault.TheVariants.{Limit, NoMemory, Spent}
 use Rattle.gv_checks.specs.declared.names.QueryName.{QueryName}
 use Rattle.gv_checks.specs.declared.one.Found1.{Found1}
 use Rattle.gv_load.specs.OwnLines.{HaveOwnLines}

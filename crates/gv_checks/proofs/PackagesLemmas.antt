@@ -8,21 +8,20 @@ use Rattle.std.proofs.lemmas.Grind.{flat_map-append}
 use Rattle.std.proofs.lemmas.List.Elements.{filter-append}
 use Rattle.gv_report.specs.Selecting.{selected}
 use Rattle.gv_report.specs.declared.options.Options.{Options}
-use Rattle.gv_report.specs.declared.report.Report.{Report}
 use Rattle.gv_load.specs.declared.loading.Repo.{Repo}
-use Rattle.gv_checks.specs.Cases.{Member, cases_of, members}
-use Rattle.gv_checks.specs.Chosen.{chosen_from, is_own, told_chosen, told_of}
-use Rattle.gv_checks.specs.Lists.{filter_flat, flat_same}
+use Rattle.gv_plain.specs.Cases.{Member, cases_of, members}
+use Rattle.gv_checks.specs.Chosen.{chosen_from, is_own, told_of}
+use Rattle.gv_plain.specs.Lists.{filter_flat, flat_same}
 use Rattle.gv_checks.specs.Named.{IsNamed}
-use Rattle.gv_checks.specs.Plain.{told_member}
+use Rattle.gv_plain.specs.Plain.{told_member}
 use Rattle.gv_checks.specs.Queries.{Query, case_queries, case_queries_all, queries, query_name}
-use Rattle.gv_checks.specs.RepoReports.{member_plain, query_report}
-use Rattle.gv_checks.specs.SomePackages.{PackagesLaw, is_on, members_on, plain_of, queries_on, reports_of_members, reports_on}
-use Rattle.gv_checks.specs.Telling.{numbered, told_at, told_if}
+use Rattle.gv_plain.specs.PlainReports.{member_plain}
+use Rattle.gv_checks.specs.RepoReports.{query_report}
+use Rattle.gv_checks.specs.SomePackages.{PackagesLaw, is_on, members_on, queries_on, reports_of_members}
+use Rattle.gv_plain.specs.Telling.{ToldLaw}
 use Rattle.gv_checks.specs.declared.chosen.Chosen.TheVariants.{Packages}
 use Rattle.gv_checks.proofs.ChosenLemmas.{each_query}
 use Rattle.gv_checks.proofs.NamedLemmas.{all_named}
-use Rattle.gv_checks.proofs.PlainLemmas.{member_told}
 use Rattle.gv_checks.proofs.SelectedLemmas.{of_cases}
 
 -- what is so of all is so of those that a test picks out
@@ -74,7 +73,7 @@ module _ (bits : List Bool) (o : Options) (repo : Repo) where
   packages_named = subst (AllByRecursion (λ q. IsNamed o repo (query_name q) q)) (of_members (members repo)) (all_picked (λ q. IsNamed o repo (query_name q) q) is_in (queries o repo) (all_named o repo))
 
 -- ---- chosen by a walk
-module _ (bits : Bor (List Bool)) (o : Options) (repo : Repo) where
+module _ (told_law : (o : Options) (repo : Repo) → ToldLaw o repo) (bits : Bor (List Bool)) (o : Options) (repo : Repo) where
   as_filter : (n : ℕ) (qs : List Query) → chosen_from (Packages bits) n qs ≡ filter (is_in bits.now o repo) qs
   as_filter n [] = refl
   as_filter n (q ∷ qs) = ap (λ l. if is_in bits.now o repo q then q ∷ l else l) (as_filter (n + 1) qs)
@@ -98,13 +97,5 @@ module _ (bits : Bor (List Bool)) (o : Options) (repo : Repo) where
       members_told ms =
           sym (filter-append (selected o) (flat_map (member_plain repo) ms) (filter_map query_report (flat_map case_queries_all (flat_map (cases_of repo) ms)))
           ∙ (ap (λ rs. rs ++ filter (selected o) (filter_map query_report (flat_map case_queries_all (flat_map (cases_of repo) ms))))
-          (filter_flat (selected o) (member_plain repo) ms ∙ flat_same (λ m. filter (selected o) (member_plain repo m)) (told_member o repo) (member_told o repo) ms)
+          (filter_flat (selected o) (member_plain repo) ms ∙ flat_same (λ m. filter (selected o) (member_plain repo m)) (told_member o repo) (told_law o repo).each ms)
           ∙ ap (λ rs. flat_map (told_member o repo) ms ++ rs) (of_cases o (flat_map (cases_of repo) ms))))
-
--- of one package
-pub plain_told : (o : Options) (repo : Repo) (number : ℕ) → told_at o repo number ≡ filter (selected o) (plain_of repo number)
-plain_told o repo number = by (numbered repo number)
-  where
-    by : (m : Option Member) → told_if o repo m ≡ filter (selected o) (flat_map (member_plain repo) (option_to_list m))
-    by None = refl
-    by (Some m) = sym (member_told o repo m) ∙ ap (filter (selected o)) (sym (append-nil (member_plain repo m)))

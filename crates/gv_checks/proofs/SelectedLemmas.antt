@@ -7,17 +7,18 @@ use Rattle.std.proofs.lemmas.List.Elements.{filter-append, filter_map-append}
 use Rattle.gv_expr.specs.Dep.{Dep}
 use Rattle.gv_facts.specs.Classes.{has_class}
 use Rattle.gv_facts.specs.declared.kinds.Class.{Class}
-use Rattle.gv_facts.specs.declared.kinds.Class.TheVariants.{Required, Depend, Bdepend, Rdepend, Pdepend, Idepend}
+use Rattle.gv_facts.specs.declared.kinds.Class.TheVariants.{Bdepend, Depend, Idepend, Pdepend, Rdepend, Required}
 use Rattle.gv_report.specs.Keyword.{has_keyword}
 use Rattle.gv_report.specs.Selecting.{in_profiles, selected}
 use Rattle.gv_report.specs.declared.keyword.Keyword.{Keyword}
 use Rattle.gv_report.specs.declared.keyword.Keyword.TheVariants as keywords
 use Rattle.gv_report.specs.declared.options.Options.{Options}
 use Rattle.gv_report.specs.declared.report.Report.{Report}
-use Rattle.gv_checks.specs.Cases.{Case, cases_of, members}
-use Rattle.gv_checks.specs.Classes.{classes, is_whole}
-use Rattle.gv_checks.specs.Queries.{case_queries, case_queries_all, class_keyword, context_of, has_query, is_asked, is_selected, least_of, queries, query_of}
-use Rattle.gv_checks.specs.RepoReports.{nonsolvable, plain_reports, query_report, query_reports, report_found, reports, unsatisfiable}
+use Rattle.gv_plain.specs.Cases.{Case, cases_of, members}
+use Rattle.gv_plain.specs.Classes.{classes, is_whole}
+use Rattle.gv_checks.specs.Queries.{case_queries, case_queries_all, class_keyword, has_query, is_asked, is_selected, least_of, queries, query_of}
+use Rattle.gv_plain.specs.PlainReports.{context_of, plain_reports}
+use Rattle.gv_checks.specs.RepoReports.{nonsolvable, query_report, query_reports, report_found, reports, unsatisfiable}
 use Rattle.gv_load.specs.declared.loading.Repo.{Repo}
 
 pub same_some : {X : Type 0} (a b : X) → Some a ≡ Some b → a ≡ b

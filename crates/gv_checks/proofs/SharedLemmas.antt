@@ -18,22 +18,18 @@ use Rattle.gv_lower.specs.Lowering.{IsQuery}
 use Rattle.gv_lower.specs.declared.query.Query as lowered
 use Rattle.gv_checks.specs.Asked.{asked_flags, asked_gates, asked_items, asked_preferred, asked_weight}
 use Rattle.gv_checks.specs.Alike.{first_at}
-use Rattle.gv_checks.specs.Cases.{Case}
-use Rattle.gv_checks.specs.Context.{case_of}
+use Rattle.gv_plain.specs.Cases.{Case}
+use Rattle.gv_plain.specs.Context.{case_of}
 use Rattle.gv_checks.specs.Keys.{ArePartsOf}
 use Rattle.gv_checks.specs.Limits.{IsWithin}
 use Rattle.gv_checks.specs.Progress.{Grows}
 use Rattle.gv_checks.specs.Queries.{Query, class_of, flags_of, gates_bytes, gates_of, items_of, preferred_of, query_of, required_of, weight_of}
 use Rattle.gv_checks.specs.Shared.{AreHere, AreKept, AreNoted, ArePlaced, AreReady, AreShared, IsAnsweredAt, IsKeptAs, IsLoweredAs, IsNoted, IsShared, IsSharedAt, Keeps, asked_key, key_of}
-use Rattle.gv_checks.specs.declared.context.JudgedPkg.{JudgedPkg}
+use Rattle.gv_plain.specs.declared.context.JudgedPkg.{JudgedPkg}
 use Rattle.gv_checks.specs.declared.keys.PkgSites.{PkgSites}
 use Rattle.gv_checks.specs.declared.shared.Placed.{Placed}
 use Rattle.gv_checks.specs.declared.shared.Shared.{Shared}
 use Rattle.gv_checks.specs.declared.shared.SharedQuery.{SharedQuery}
-
-pub on_ok : {T E P Q : Type 0} (r : Result T E) → (P → Q) → OnOk r P → OnOk r Q
-on_ok (Ok x) f h = f h
-on_ok (Err x) f h = tt
 
 -- What equal keys tell.
 pub record KeyLaws : Type 0 where

@@ -14,12 +14,13 @@ use Rattle.gv_facts.specs.declared.pkg.Pkg.{Pkg}
 use Rattle.gv_facts.specs.declared.profile.Profile.{Profile}
 use Rattle.gv_report.specs.declared.options.Options.{Options}
 use Rattle.gv_report.specs.declared.report.Report.{Report}
-use Rattle.gv_checks.specs.Cases.{Case, Member, case_in, cases_of, members_from}
-use Rattle.gv_checks.specs.Lists.{drop_here}
+use Rattle.gv_plain.specs.Cases.{Case, Member, case_in, cases_of, members_from}
+use Rattle.gv_plain.specs.Lists.{drop_here}
 use Rattle.gv_checks.specs.Progress.{IsAt, Judges, Stops}
 use Rattle.gv_checks.specs.Queries.{Query, case_asks, case_queries, class_queries, is_asked, query_of}
 use Rattle.gv_checks.specs.Walks.{IsWalk}
-use Rattle.gv_checks.specs.Seen.{seen}
+use Rattle.gv_plain.specs.Shown.{IsSeenAt}
+use Rattle.gv_usestate.specs.Kinds.{IsOneOf}
 use Rattle.gv_visible.specs.Candidates.{VisiblePkgs}
 use Rattle.gv_checks.specs.declared.fault.JudgeFault.{JudgeFault}
 use Rattle.gv_checks.specs.declared.judging.Progress.{Progress}
@@ -81,28 +82,6 @@ module _ (o : Options) (among : List Pkg) (m : Member) (profiles : List Profile)
 pub none_judged : (b : ℕ) (given : List KnownRecord) (p : Progress) (n : Counts) (u : Unit {0}) → Judges b given [] p p n n (Ok u)
 none_judged b given p n u = λ start done at. subst (λ l. IsAt b given start l p n) (sym (append-nil done)) at
 
--- where they are those that are shown
-pub record IsSeenAt (pkgs : List Pkg) (profiles : List Profile) (i : ℕ) (x : VisiblePkgs) : Type 0 where
-  pub lt : i < length profiles
-  pub here : x.profile ≡ get_or profiles i x.profile
-  pub pkgs_are : x.pkgs ≡ pkgs
-
-pub seen_at : (pkgs : List Pkg) (profiles : List Profile) (shown : List VisiblePkgs) (i : ℕ) (x : VisiblePkgs) → shown ≡ map (seen pkgs) profiles → i < length shown → x ≡ get_or shown i x → IsSeenAt pkgs profiles i x
-seen_at pkgs profiles shown i x all below here = record {
-  lt = lt;
-  here = ap (λ v. v.profile) is;
-  pkgs_are = ap (λ v. v.pkgs) is;
-}
-  where
-    lt : i < length profiles
-    lt = subst (λ n. i < n) (ap length all ∙ length-map profiles (seen pkgs)) below
-
-    is : x ≡ seen pkgs (get_or profiles i x.profile)
-    is = here ∙ (ap (λ l. get_or l i x) all ∙ get_or-map (seen pkgs) profiles i x.profile x lt)
-
-pub all_seen : (pkgs : List Pkg) (profiles : List Profile) (shown : List VisiblePkgs) (i : ℕ) → shown ≡ map (seen pkgs) profiles → length shown ≤ i → length profiles ≤ i
-all_seen pkgs profiles shown i all = subst (λ n. n ≤ i) (ap length all ∙ length-map profiles (seen pkgs))
-
 -- packages
 none_left : (n : ℕ) (ps : List Pkg) → members_from n ps [] ≡ []
 none_left n [] = refl
@@ -155,7 +134,6 @@ module _ (tell : Member → List Report) (pkgs : List Pkg) (bodies : List Body) 
       ∙ (ap (λ ms. old ++ flat_map tell ms) (sym (none_left i (drop i pkgs)))
       ∙ (ap (λ bs. old ++ told_from i (drop i pkgs) bs) (sym (drop_of_length-le bodies le)) ∙ on))
 
--- as the code has them
-module _ (repo : Repo) (pkg : Pkg) (body : Body) (n i : ℕ) (e : n ≡ i) where
-  pub numbered_at : (ps : List Pkg) → ps ≡ repo.pkgs → i < length ps → pkg ≡ get_or ps i pkg → slice_get repo.pkgs n ≡ Some pkg
-  numbered_at ps same lt here = ap (slice_get repo.pkgs) e ∙ (ap (λ l. slice_get l i) (sym same) ∙ (slice_get-get_or ps i pkg lt ∙ ap Some (sym here)))
+-- a view's profile is one of them
+pub one_of : (pkgs : List Pkg) (profiles : List Profile) (i : ℕ) (x : VisiblePkgs) → IsSeenAt pkgs profiles i x → (profile : Profile) → profile ≡ x.profile → IsOneOf profiles profile
+one_of pkgs profiles i x at profile same = record { place = i; there = slice_get-get_or profiles i x.profile at.lt ∙ (ap Some (sym at.here) ∙ ap Some (sym same)) }

@@ -1,15 +1,15 @@
 -- Which queries of a repository are judged, and of which packages is told what needs none.
 use Rattle.std.specs.Prelude.{ℕ, ◌+◌, ◌%◌, Bool, true, false, not, ◌&&◌, ◌||◌, nat_eq, nat_lt, if◌then◌else◌, List, [], ◌∷◌, flat_map, Option, None, Some, slice_get, unwrap_or}
 use Rattle.gv_facts.specs.declared.kinds.Class.{Class}
-use Rattle.gv_facts.specs.declared.kinds.Class.TheVariants.{Required, Depend, Bdepend, Rdepend, Pdepend, Idepend}
+use Rattle.gv_facts.specs.declared.kinds.Class.TheVariants.{Bdepend, Depend, Idepend, Pdepend, Rdepend, Required}
 use Rattle.gv_report.specs.declared.options.Options.{Options}
 use Rattle.gv_report.specs.declared.report.Report.{Report}
 use Rattle.gv_load.specs.declared.loading.Repo.{Repo}
-use Rattle.gv_checks.specs.Cases.{Member, members}
-use Rattle.gv_checks.specs.Plain.{told_member}
+use Rattle.gv_plain.specs.Cases.{Member, members}
+use Rattle.gv_plain.specs.Plain.{told_member}
 use Rattle.gv_checks.specs.Queries.{Query}
 use Rattle.gv_checks.specs.declared.chosen.Chosen.{Chosen}
-use Rattle.gv_checks.specs.declared.chosen.Chosen.TheVariants.{All, Packages, Classes, Part}
+use Rattle.gv_checks.specs.declared.chosen.Chosen.TheVariants.{All, Classes, Packages, Part}
 use Rattle.gv_checks.specs.declared.chosen.ClassSet.{ClassSet}
 
 abbrev pub has : ClassSet → Class → Bool

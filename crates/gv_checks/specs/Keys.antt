@@ -10,15 +10,15 @@ use Rattle.gv_entry.specs.declared.entry.Body.{Body}
 use Rattle.gv_expr.specs.Dep.{Dep}
 use Rattle.gv_expr.specs.Required.{Req}
 use Rattle.gv_facts.specs.declared.kinds.Class.{Class}
-use Rattle.gv_facts.specs.declared.kinds.Class.TheVariants.{Required, Depend, Bdepend, Rdepend, Pdepend, Idepend}
+use Rattle.gv_facts.specs.declared.kinds.Class.TheVariants.{Bdepend, Depend, Idepend, Pdepend, Rdepend, Required}
 use Rattle.gv_facts.specs.declared.pkg.Pkg.{Pkg}
 use Rattle.gv_facts.specs.declared.profile.Profile.{Profile}
 use Rattle.gv_lower.specs.Keys.{required_key}
 use Rattle.gv_lower.specs.Sites.{ClassSites, RequiredFlags}
 use Rattle.gv_usestate.specs.Kinds.{IsOneOf}
 use Rattle.gv_checks.specs.Alike.{AreFirsts, first_at}
-use Rattle.gv_checks.specs.Context.{case_of}
-use Rattle.gv_checks.specs.declared.context.JudgedPkg.{JudgedPkg}
+use Rattle.gv_plain.specs.Context.{case_of}
+use Rattle.gv_plain.specs.declared.context.JudgedPkg.{JudgedPkg}
 use Rattle.gv_checks.specs.declared.keys.PkgSites.{PkgSites}
 
 abbrev pub flags_in : List Profile → Pkg → List Req → RequiredFlags

@@ -9,7 +9,7 @@ use Rattle.gv_lower.specs.declared.query.LowerFault.{LowerFault}
 use Rattle.gv_lower.specs.declared.query.LowerFault.TheVariants as lowering
 use Rattle.gv_report.specs.declared.options.Options.{Options}
 use Rattle.gv_checks.specs.Answered.{IsFound, Knows}
-use Rattle.gv_checks.specs.Cases.{Member, case_at}
+use Rattle.gv_plain.specs.Cases.{Member, case_at}
 use Rattle.gv_checks.specs.Limits.{Cause}
 use Rattle.gv_checks.specs.Queries.{Query, is_asked, query_name}
 use Rattle.gv_checks.specs.declared.fault.JudgeFault.{JudgeFault}

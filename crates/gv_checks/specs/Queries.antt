@@ -6,22 +6,19 @@ use Rattle.gv_facts.specs.Classes.{has_class}
 use Rattle.gv_facts.specs.declared.kinds.Class.{Class}
 use Rattle.gv_facts.specs.declared.kinds.Class.TheVariants.{Required}
 use Rattle.gv_facts.specs.declared.kinds.Status.{Status}
-use Rattle.gv_facts.specs.declared.kinds.Status.TheVariants.{Stable, Dev, Exp}
-use Rattle.gv_entry.specs.Allowed.{Parent}
+use Rattle.gv_facts.specs.declared.kinds.Status.TheVariants.{Dev, Exp, Stable}
 use Rattle.gv_entry.specs.Queries.{class_in}
-use Rattle.gv_report.specs.Keyword.{has_keyword}
-use Rattle.gv_report.specs.Selecting.{in_profiles}
 use Rattle.gv_report.specs.declared.keyword.Keyword.{Keyword}
 use Rattle.gv_report.specs.declared.keyword.Keyword.TheVariants as keywords
 use Rattle.gv_report.specs.declared.options.Options.{Options}
-use Rattle.gv_report.specs.declared.report.ContextName.{ContextName}
 use Rattle.gv_logic.specs.Bytes.{circuit_bytes}
 use Rattle.gv_logic.specs.Circuits.{Circuit}
 use Rattle.gv_checks.specs.Asked.{asked_flags, asked_gates, asked_items, asked_preferred, asked_weight, least_asked}
-use Rattle.gv_checks.specs.Cases.{Case, cases}
-use Rattle.gv_checks.specs.Classes.{classes, is_whole}
+use Rattle.gv_plain.specs.Cases.{Case, cases}
+use Rattle.gv_plain.specs.Classes.{classes, is_whole}
 use Rattle.gv_checks.specs.declared.names.QueryName.{QueryName}
 use Rattle.gv_load.specs.declared.loading.Repo.{Repo}
+use Rattle.gv_plain.specs.Plain.{is_told}
 
 -- a query is about a package in a context: may REQUIRED_USE hold, or may the class fail
 pub record Query : Type 0 where
@@ -30,9 +27,6 @@ pub record Query : Type 0 where
 
 abbrev pub query_of : Case → Class → Query
 query_of c class = record { case = c; class = class }
-
-abbrev pub context_of : Parent → ContextName
-context_of c = record { line = c.profile.line; arch = c.profile.arch; path = c.profile.path; level = c.level }
 
 -- the keyword that a query belongs to
 abbrev pub class_keyword : Status → Keyword
@@ -48,11 +42,7 @@ query_keyword status class = class_keyword status
 abbrev pub has_query : Case → Class → Bool
 has_query c class = has_class c.parent.pkg.eapi class && (is_whole c.member.body Required && is_whole c.member.body class)
 
--- the keyword is listed, and the profile selected
-abbrev pub is_told : Options → Case → Keyword → Bool
-is_told options c keyword = has_keyword options.keywords keyword && in_profiles options.profiles (Some (context_of c.parent))
-
--- its keyword is
+-- its keyword is listed, and the profile selected
 abbrev pub is_selected : Options → Case → Class → Bool
 is_selected options c class = is_told options c (query_keyword c.parent.profile.status class)
 

@@ -23,15 +23,15 @@ use Rattle.gv_checks.specs.Asked.{asked_flags, asked_gates, asked_items, asked_p
 use Rattle.gv_cert.specs.Known.{HasQuery, KnownRecord}
 use Rattle.gv_logic.specs.Circuits.{Circuit, IsCircuit}
 use Rattle.gv_checks.specs.Certs.{HasBacked}
-use Rattle.gv_checks.specs.Cases.{Case}
-use Rattle.gv_checks.specs.Context.{case_of}
+use Rattle.gv_plain.specs.Cases.{Case}
+use Rattle.gv_plain.specs.Context.{case_of}
 use Rattle.gv_checks.specs.Limits.{Cause, IsWithin}
 use Rattle.gv_checks.specs.Progress.{AreUsed, Grows}
 use Rattle.gv_checks.specs.RepoReports.{query_report}
 use Rattle.gv_checks.specs.declared.fault.JudgeFault.{JudgeFault}
 use Rattle.gv_checks.specs.declared.judging.Progress.{Progress}
 use Rattle.gv_checks.specs.Queries.{Query, class_of, flags_of, gates_bytes, gates_of, items_of, preferred_of, query_of, required_of}
-use Rattle.gv_checks.specs.declared.context.JudgedPkg.{JudgedPkg}
+use Rattle.gv_plain.specs.declared.context.JudgedPkg.{JudgedPkg}
 use Rattle.gv_checks.specs.declared.shared.Placed.{Placed}
 use Rattle.gv_checks.specs.declared.shared.Shared.{Shared}
 use Rattle.gv_checks.specs.declared.shared.SharedQuery.{SharedQuery}

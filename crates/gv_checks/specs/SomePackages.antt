@@ -1,15 +1,15 @@
 -- The queries and the reports of some packages of a repository, among all of which they are judged; bits say which packages these are.
-use Rattle.std.specs.Prelude.{◌≡◌, ℕ, Bool, List, ◌++◌, filter, filter_map, flat_map, option_to_list}
+use Rattle.std.specs.Prelude.{◌≡◌, Bool, List, ◌++◌, filter, filter_map, flat_map}
 use Rattle.std.specs.Borrow.{Bor}
 use Rattle.gv_report.specs.Selecting.{selected}
 use Rattle.gv_report.specs.declared.options.Options.{Options}
 use Rattle.gv_report.specs.declared.report.Report.{Report}
 use Rattle.gv_load.specs.declared.loading.Repo.{Repo}
-use Rattle.gv_checks.specs.Cases.{Member, cases_of, members}
+use Rattle.gv_plain.specs.Cases.{Member, cases_of, members}
 use Rattle.gv_checks.specs.Chosen.{chosen, is_own, told_chosen}
 use Rattle.gv_checks.specs.Queries.{Query, case_queries, case_queries_all, queries}
-use Rattle.gv_checks.specs.RepoReports.{member_plain, query_report}
-use Rattle.gv_checks.specs.Telling.{numbered}
+use Rattle.gv_plain.specs.PlainReports.{member_plain}
+use Rattle.gv_checks.specs.RepoReports.{query_report}
 use Rattle.gv_checks.specs.declared.chosen.Chosen.TheVariants.{Packages}
 
 -- of these packages what needs no query, and what their queries tell
@@ -28,10 +28,6 @@ queries_on bits options repo = flat_map (case_queries options) (flat_map (cases_
 
 abbrev pub reports_on : (bits : List Bool) → Repo → List Report
 reports_on bits repo = reports_of_members repo (members_on bits repo)
-
--- what is told of one package without a query
-abbrev pub plain_of : Repo → (number : ℕ) → List Report
-plain_of repo number = flat_map (member_plain repo) (option_to_list (numbered repo number))
 
 -- Choosing packages chooses their queries, and what is told of them and of these queries are their selected reports.
 pub record PackagesLaw (bits : Bor (List Bool)) (options : Options) (repo : Repo) : Type 0 where

@@ -1,15 +1,15 @@
 //! The query of a name. O(profiles), and a look-up of the package's level in each profile of the name's line.
 ghost use Rattle.std.specs.Prelude.{◌≡◌, true, Some, slice_get, MatchOption};
 ghost use Rattle.gv_facts.specs.declared.kinds.Level.{Level};
-ghost use Rattle.gv_checks.specs.Context.{IsNumbered, case_of, listed};
+ghost use Rattle.gv_plain.specs.Context.{IsNumbered, case_of, listed};
 ghost use Rattle.gv_checks.specs.Named.{HasNamed, IsNamed, IsNamedIn};
 ghost use Rattle.gv_checks.specs.Queries.{has_query, query_of};
 
 use crate::QueryName;
-use crate::context::{JudgedPkg, ListedPkg};
 use crate::judging::is_asked;
 use gv_facts::{Level, Profile};
 use gv_load::Repo;
+use gv_plain::{JudgedPkg, ListedPkg};
 use gv_report::Options;
 use gv_visible::judged;
 

@@ -8,29 +8,30 @@ ghost use Rattle.gv_lower.specs.Lowering.{IsQuery};
 ghost use Rattle.gv_query.specs.Asking.{MayCount};
 ghost use Rattle.gv_visible.specs.Candidates.{test_of};
 ghost use Rattle.gv_checks.specs.Certs.{CountsAtMost};
-ghost use Rattle.gv_checks.specs.Context.{AreAround, IsNumbered, case_of};
+ghost use Rattle.gv_checks.specs.Around.{AreAround};
+ghost use Rattle.gv_plain.specs.Context.{IsNumbered, case_of};
 ghost use Rattle.gv_checks.specs.Keys.{ArePartsOf};
 ghost use Rattle.gv_checks.specs.Limits.{Cause, IsLimit, IsLimitOf, IsWithin};
 ghost use Rattle.gv_checks.specs.Shared.{AnswersKept, AreHere, AreReady, IsLoweredAs, IsNoted, IsSharedAt, MayLower, StayNoted};
-ghost use Rattle.gv_checks.specs.Seen.{seen};
+ghost use Rattle.gv_plain.specs.Seen.{seen};
 ghost use Rattle.gv_checks.specs.Progress.{AreSome, IsSomewhere, Judges};
-ghost use Rattle.gv_checks.specs.Queries.{class_queries, flags_of, gates_of, has_query, is_asked, is_told, items_of, preferred_of, query_name, query_of};
+ghost use Rattle.gv_checks.specs.Queries.{class_queries, flags_of, gates_of, has_query, is_asked, items_of, preferred_of, query_name, query_of};
 
 use crate::chosen::Asking;
-use crate::classes::{is_whole, query_keyword};
-use crate::context::{JudgedPkg, Spot};
 use crate::laws::gates_law;
 use crate::lowering::lower_query;
-use crate::reporting::report_of;
+use crate::reporting::{query_keyword, report_of};
 use crate::shared::{Shared, SharedQuery};
+use crate::spot::Spot;
 use crate::used::Used;
 use crate::walking::Errand;
 use crate::{JudgeFault, QueryName, QueryNames};
 use gv_base::{Ledger, NoMemory, Steps, Text};
 use gv_facts::{Class, Context, Pkg, has_class};
 use gv_lower::{LowerFault, Query};
+use gv_plain::{JudgedPkg, is_told, is_whole};
 use gv_query::AskFault;
-use gv_report::{Keyword, Options, Report, Reports};
+use gv_report::{Options, Report, Reports};
 use gv_visible::{Candidates, visible};
 use std::alloc::Global;
 
@@ -151,17 +152,6 @@ fn place_query<L: Ledger>(
         Err(NoMemory) => return Err(JudgeFault::NoMemory),
     };
     shared.place(alloc, &candidates, spot, class, steps)
-}
-
-/// Whether reports of the keyword are selected in the context.
-pub(crate) fn is_told(options: &Options, judged: &JudgedPkg<'_>, keyword: Keyword) -> bool
-    ensures { result ≡ is_told options.now (case_of judged.now) keyword }
-{
-    let is_profile = match &options.profiles {
-        None => true,
-        Some(paths) => paths.has(judged.profile.path.bytes()),
-    };
-    options.keywords.has(keyword) && is_profile
 }
 
 /// Whether the query is one of those that the options select.

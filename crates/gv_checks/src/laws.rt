@@ -21,7 +21,7 @@ ghost use Rattle.gv_checks.specs.Limits.{RefusesFirst};
 ghost use Rattle.gv_checks.specs.Named.{IsNamed};
 ghost use Rattle.gv_checks.specs.Queries.{Query, gates_of, queries, query_name};
 ghost use Rattle.gv_checks.specs.SomePackages.{PackagesLaw, queries_on};
-ghost use Rattle.gv_checks.specs.Telling.{PartsLaw};
+ghost use Rattle.gv_checks.specs.Parts.{PartsLaw};
 ghost use Rattle.gv_checks.specs.declared.names.QueryName.{QueryName};
 ghost use Rattle.gv_checks.specs.declared.walking.Answers.{Answers};
 ghost use Rattle.gv_checks.specs.declared.walking.Stopped.{Stopped};
@@ -32,6 +32,7 @@ ghost use Rattle.gv_load.specs.declared.loading.Repo.{Repo};
 use gv_entry::{least_allowed_law, least_failing_law, least_law};
 use gv_logic::circuit_law;
 use gv_lower::value_law;
+use gv_plain::told_law;
 
 /// What is found among the bits of a query's flags is the least among all assignments of all flags that are asked for, and
 /// nothing is found only where none is.
@@ -64,10 +65,11 @@ pub fn names_law()
 
 /// The selected reports of a repository are its selected notes, what is told of each package without a query, and the reports of
 /// the queries that the options ask, in this order.
-#[tactic(auto, using(crate::proofs::AllLemmas::in_parts))]
 pub fn parts_law()
     ensures { PartsLaw }
-{}
+{
+    told_law();
+}
 
 /// Judging some queries lowers and solves at most one for each of them; and where it stops, it refuses one of them, and those
 /// before it are within the limits and have their certificates.
@@ -93,7 +95,9 @@ pub fn certs_law()
 pub fn packages_law()
     ensures chosen { (bits : Bor (List Bool)) (options : Options) (repo : Repo) → PackagesLaw bits options repo }
     ensures named { (bits : List Bool) (options : Options) (repo : Repo) → AllByRecursion (λ q. IsNamed options repo (query_name q) q) (queries_on bits options repo) }
-{}
+{
+    told_law();
+}
 
 /// Where queries were judged each of them has its record among those that are left.
 pub fn records_law()

@@ -4,14 +4,15 @@ ghost use Rattle.gv_base.specs.Steps.{after};
 ghost use Rattle.gv_base.specs.declared.steps.Kind.TheVariants.{Lower};
 ghost use Rattle.gv_lower.specs.Lowering.{IsQuery, Lowered};
 ghost use Rattle.gv_visible.specs.Candidates.{test_of};
-ghost use Rattle.gv_checks.specs.Context.{AreAround, case_of};
+ghost use Rattle.gv_checks.specs.Around.{AreAround};
+ghost use Rattle.gv_plain.specs.Context.{case_of};
 ghost use Rattle.gv_checks.specs.Queries.{flags_of, gates_of, has_query, items_of, preferred_of, query_of, weight_of};
 
-use crate::context::JudgedPkg;
 use gv_base::{Ledger, Steps};
 use gv_entry::class_in;
 use gv_facts::{Class, Pkg};
 use gv_lower::{LowerFault, Query, lower_allowed, lower_failing};
+use gv_plain::JudgedPkg;
 use gv_visible::Candidates;
 use std::alloc::Global;
 

@@ -18,6 +18,7 @@ use crate::whole::all_reports;
 use gv_base::{Ledger, NoMemory, Steps, Text};
 use gv_cert::Known;
 use gv_load::Repo;
+use gv_plain::told_law;
 use gv_report::{Options, Reports};
 use std::alloc::Global;
 
@@ -97,6 +98,7 @@ fn recall_by<'a, L: Ledger>(
     ensures few { CountsAtMost (length (queries options.now repo.now)) steps.old steps.new }
     ensures unsolved { steps.new.solve ≡ steps.old.solve }
 {
+    told_law();
     let walk = Walk::new(alloc, repo, options)?;
     let asking = Asking {
         chosen: Chosen::All,

@@ -1,4 +1,4 @@
-//! The report of a query, from what was found for its gates.
+//! The report of a query and its keyword, from what was found for its gates.
 //!
 //! Costs the values of the gates and the bytes of the report.
 ghost use Rattle.std.specs.Prelude.{◌≡◌, ◌++◌, [], true, codes, if◌then◌else◌, option_map, unwrap_or, map, slice_get, length, Some, None, IfOk};
@@ -9,45 +9,22 @@ ghost use Rattle.gv_entry.specs.declared.entry.Body.{Body};
 ghost use Rattle.gv_logic.specs.Circuits.{at, values};
 ghost use Rattle.gv_logic.specs.Literals.{lit_true};
 ghost use Rattle.gv_lower.specs.Lowering.{IsQuery};
-ghost use Rattle.gv_checks.specs.Context.{case_of};
-ghost use Rattle.gv_checks.specs.Queries.{class_of, context_of, flags_of, gates_of, has_query, items_of, least_of, preferred_of, query_of, required_of};
-ghost use Rattle.gv_checks.specs.RepoReports.{failing_text, nonsolvable, query_report, subject_of, unsatisfiable, witness_of, witness_words};
+ghost use Rattle.gv_plain.specs.Context.{case_of};
+ghost use Rattle.gv_checks.specs.Queries.{class_keyword, class_of, flags_of, gates_of, has_query, items_of, least_of, preferred_of, query_keyword, query_of, required_of};
+ghost use Rattle.gv_plain.specs.PlainReports.{context_of, subject_of};
+ghost use Rattle.gv_checks.specs.RepoReports.{failing_text, nonsolvable, query_report, unsatisfiable, witness_of, witness_words};
 ghost use Rattle.gv_checks.specs.Unmet.{FoundUnmet, first_off};
 
-use crate::classes::class_keyword;
-use crate::context::JudgedPkg;
 use crate::laws::answers_law;
 use gv_base::{NoMemory, Text, Texts};
 use gv_entry::class_in;
 use gv_expr::{DepExpr, print_item, print_required};
-use gv_facts::{Class, Pkg};
+use gv_facts::{Class, Status};
 use gv_logic::{Bits, Lit, values};
 use gv_lower::{Query, value_law};
-use gv_report::{ContextName, Keyword, Report, Subject};
+use gv_plain::{JudgedPkg, context_of, subject_of};
+use gv_report::{Keyword, Report};
 use std::alloc::Global;
-
-/// The package as the subject of a report.
-pub(crate) fn subject_of(alloc: Global, pkg: &Pkg) -> Result<Subject, NoMemory>
-    ensures { IfOk result (λ subject. subject ≡ subject_of pkg.now) }
-{
-    Ok(Subject::Package {
-        category: pkg.category.copy(alloc)?,
-        name: pkg.name.copy(alloc)?,
-        version: pkg.version.copy(alloc)?,
-        pf: pkg.pf.copy(alloc)?,
-    })
-}
-
-pub(crate) fn context_of(alloc: Global, judged: &JudgedPkg<'_>) -> Result<ContextName, NoMemory>
-    ensures { IfOk result (λ context. context ≡ context_of (case_of judged.now).parent) }
-{
-    Ok(ContextName {
-        line: judged.profile.line,
-        arch: judged.profile.arch.copy(alloc)?,
-        path: judged.profile.path.copy(alloc)?,
-        level: judged.level,
-    })
-}
 
 /// The words of the query's flags with these bits, joined by one space.
 pub(crate) fn witness_of(alloc: Global, query: &Query, bits: &Bits) -> Result<Text, NoMemory>
@@ -79,6 +56,29 @@ pub(crate) fn report_of(
             let report = nonsolvable(alloc, judged, class, dep, query, bits)?;
             Ok(Some(report))
         }
+    }
+}
+
+/// The keyword that a query belongs to.
+pub(crate) fn query_keyword(status: Status, class: Class) -> Keyword
+    ensures { result ≡ query_keyword status class }
+{
+    match class {
+        Class::Required => Keyword::UnsatisfiableRequiredUse,
+        Class::Depend | Class::Bdepend | Class::Rdepend | Class::Pdepend | Class::Idepend => {
+            class_keyword(status)
+        }
+    }
+}
+
+// The keyword of a class that fails in a profile of this status.
+fn class_keyword(status: Status) -> Keyword
+    ensures { result ≡ class_keyword status }
+{
+    match status {
+        Status::Stable => Keyword::NonsolvableDepsInStable,
+        Status::Dev => Keyword::NonsolvableDepsInDev,
+        Status::Exp => Keyword::NonsolvableDepsInExp,
     }
 }
 

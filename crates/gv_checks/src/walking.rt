@@ -8,27 +8,24 @@ ghost use Rattle.std.specs.Prelude.{◌≡◌, ◌++◌, [], ◌∷◌, Some, sl
 ghost use Rattle.std.specs.List.{AllByRecursion};
 ghost use Rattle.gv_usestate.specs.Kinds.{IsOneOf};
 ghost use Rattle.gv_checks.specs.Answers.{AreAnswers, StopsAt};
-ghost use Rattle.gv_checks.specs.Cases.{case_in, cases_of, members, members_from};
+ghost use Rattle.gv_plain.specs.Cases.{case_in, cases_of, members, members_from};
 ghost use Rattle.gv_checks.specs.Certs.{CountsAtMost};
 ghost use Rattle.gv_checks.specs.Chosen.{chosen, told_chosen, told_of};
-ghost use Rattle.gv_checks.specs.Context.{IsNumbered, case_of, listed};
+ghost use Rattle.gv_plain.specs.Context.{IsNumbered, case_of, listed};
 ghost use Rattle.gv_checks.specs.Keys.{ArePartsOf, AreSitesOf, HasSites};
 ghost use Rattle.gv_checks.specs.Named.{HasNamed};
 ghost use Rattle.gv_checks.specs.Progress.{IsSomewhere};
 ghost use Rattle.gv_checks.specs.Queries.{case_asks, case_queries, class_queries, queries, query_name};
 ghost use Rattle.gv_checks.specs.Shared.{AreKept, AreReady};
-ghost use Rattle.gv_checks.specs.Seen.{seen};
+ghost use Rattle.gv_plain.specs.Seen.{seen};
 ghost use Rattle.gv_checks.specs.Walks.{Goes};
 
 use crate::chosen::Asking;
-use crate::classes::classes;
-use crate::context::{JudgedPkg, ListedPkg, Spot};
 use crate::judging::{Progress, add_names, is_asked, judge_query, next_number};
 use crate::keys::{PkgSites, make_required_key};
-use crate::plainly::add_member;
 use crate::shared::Shared;
+use crate::spot::Spot;
 use crate::used::Used;
-use crate::views::ProfileView;
 use crate::walk::Walk;
 use crate::{JudgeFault, QueryNames};
 use gv_base::{Ledger, NoMemory, Steps};
@@ -36,6 +33,7 @@ use gv_cert::Known;
 use gv_entry::Body;
 use gv_facts::{Class, Pkg, Profile};
 use gv_load::Repo;
+use gv_plain::{JudgedPkg, ListedPkg, ProfileView, class_order};
 use gv_report::{Options, Reports};
 use gv_visible::judged;
 use std::alloc::Global;
@@ -214,7 +212,7 @@ fn tell_member(
     ensures { OnOk result (plain.new ≡ plain.old ++ told_of errand.now.asking.now.chosen errand.now.walk.now.options errand.now.walk.now.repo (listed one.now)) }
 {
     if errand.asking.chosen.tells(one.number) {
-        return add_member(errand.alloc, errand.walk, one, plain);
+        return errand.walk.tell_member(errand.alloc, one, plain);
     }
     Ok(())
 }
@@ -327,7 +325,7 @@ fn judge_case<L: Ledger>(
         &mut shared.required,
     )?;
     shared.begin();
-    judge_classes(errand, spot, &classes(), going, shared, steps)
+    judge_classes(errand, spot, &class_order(), going, shared, steps)
 }
 
 fn judge_classes<L: Ledger>(
@@ -426,7 +424,7 @@ fn add_pkg_names(
                 level,
                 pkgs: &repo.pkgs,
             };
-            add_names(options, &judged, &classes(), names)?;
+            add_names(options, &judged, &class_order(), names)?;
         }
     }
     Ok(())

@@ -11,12 +11,12 @@ ghost use Rattle.gv_checks.specs.Queries.{queries};
 
 use crate::JudgeFault;
 use crate::chosen::{Asking, Chosen};
-use crate::plainly::noted;
 use crate::walk::Walk;
 use crate::walking::{Answers, Stopped};
 use gv_base::{Ledger, NoMemory, Steps};
 use gv_cert::Known;
 use gv_load::Repo;
+use gv_plain::{noted, told_law};
 use gv_report::{Options, Reports, ordered};
 use std::alloc::Global;
 
@@ -73,6 +73,7 @@ fn judge_by<'a, L: Ledger>(
     ensures first { IfErr result (RefusesFirst options.now.budget certs.now (queries options.now repo.now)) }
     ensures few { CountsAtMost (length (queries options.now repo.now)) steps.old steps.new }
 {
+    told_law();
     let walk = Walk::new(alloc, repo, options)?;
     let asking = Asking {
         chosen: Chosen::All,

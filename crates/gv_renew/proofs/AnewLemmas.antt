@@ -7,11 +7,11 @@ use Rattle.gv_report.specs.declared.keyword.Keyword.TheVariants as keywords
 use Rattle.gv_report.specs.declared.options.Options.{Options}
 use Rattle.gv_report.specs.declared.report.Report.{Report}
 use Rattle.gv_load.specs.declared.loading.Repo.{Repo}
-use Rattle.gv_checks.specs.Plain.{told_member}
-use Rattle.gv_checks.specs.RepoReports.{is_readable, nonexistent_in}
-use Rattle.gv_checks.specs.Classes.{classes}
-use Rattle.gv_checks.specs.Lists.{flat_same}
-use Rattle.gv_checks.specs.Telling.{member_with, numbered, told_at, told_if, told_of_class_if}
+use Rattle.gv_plain.specs.Plain.{told_member}
+use Rattle.gv_plain.specs.PlainReports.{is_readable, nonexistent_in}
+use Rattle.gv_plain.specs.Classes.{classes}
+use Rattle.gv_plain.specs.Lists.{flat_same}
+use Rattle.gv_plain.specs.Telling.{member_with, numbered, told_at, told_if, told_of_class_if}
 use Rattle.gv_renew.specs.Touched.{IsIn, anew_at, anew_in, anew_of, member_at, mentions_at}
 use Rattle.gv_renew.specs.declared.touched.Touched.{Touched}
 

@@ -8,13 +8,13 @@ use Rattle.gv_base.specs.Counts.{Counts}
 use Rattle.gv_cert.specs.Known.{KnownRecord}
 use Rattle.gv_entry.specs.declared.entry.Body.{Body}
 use Rattle.gv_facts.specs.declared.kinds.Class.{Class}
-use Rattle.gv_facts.specs.declared.kinds.Class.TheVariants.{Required, Depend, Bdepend, Rdepend, Pdepend, Idepend}
+use Rattle.gv_facts.specs.declared.kinds.Class.TheVariants.{Bdepend, Depend, Idepend, Pdepend, Rdepend, Required}
 use Rattle.gv_facts.specs.declared.pkg.Pkg.{Pkg}
 use Rattle.gv_report.specs.declared.options.Options.{Options}
 use Rattle.gv_report.specs.declared.report.Report.{Report}
 use Rattle.gv_load.specs.declared.loading.Repo.{Repo}
 use Rattle.gv_checks.specs.Answers.{AreAnswers}
-use Rattle.gv_checks.specs.Cases.{Case, Member, case_at, cases_of, members_from}
+use Rattle.gv_plain.specs.Cases.{Case, Member, case_at, cases_of, members_from}
 use Rattle.gv_checks.specs.Certs.{CountsAtMost}
 use Rattle.gv_checks.specs.Chosen.{chosen, chosen_from, has, has_class, has_in}
 use Rattle.gv_renew.specs.Due.{AreAnswered, due_set}

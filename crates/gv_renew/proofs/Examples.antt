@@ -4,7 +4,7 @@ use Rattle.std.proofs.Common.{arith}
 use Rattle.gv_expr.specs.DepRead.{read_dep}
 use Rattle.gv_entry.specs.declared.entry.Body.{Body}
 use Rattle.gv_facts.specs.declared.kinds.Class.{Class}
-use Rattle.gv_facts.specs.declared.kinds.Class.TheVariants.{Depend, Rdepend, Pdepend}
+use Rattle.gv_facts.specs.declared.kinds.Class.TheVariants.{Depend, Pdepend, Rdepend}
 use Rattle.gv_facts.specs.declared.kinds.Eapi.TheVariants.{Eight}
 use Rattle.gv_facts.specs.declared.kinds.Status.TheVariants as statuses
 use Rattle.gv_facts.specs.declared.pkg.Pkg.{Pkg}
@@ -15,9 +15,9 @@ use Rattle.gv_report.specs.declared.keyword.Keyword.{Keyword}
 use Rattle.gv_report.specs.declared.keyword.Keyword.TheVariants as keywords
 use Rattle.gv_report.specs.declared.options.Options.{Options}
 use Rattle.gv_report.specs.declared.report.Report.{Report}
-use Rattle.gv_checks.specs.Cases.{members}
+use Rattle.gv_plain.specs.Cases.{members}
 use Rattle.gv_checks.specs.Queries.{queries}
-use Rattle.gv_checks.specs.RepoReports.{subject_of}
+use Rattle.gv_plain.specs.PlainReports.{subject_of}
 use Rattle.gv_renew.specs.Renewal.{is_due, is_stale, told_anew}
 
 -- CATEGORY/NAME-1

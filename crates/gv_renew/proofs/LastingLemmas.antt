@@ -11,19 +11,19 @@ use Rattle.gv_base.specs.Order.{byte_cmp, has_text}
 use Rattle.gv_version.specs.Order.{compare}
 use Rattle.gv_facts.specs.Places.{is_pkg_of, places_of}
 use Rattle.gv_facts.specs.declared.kinds.Class.{Class}
-use Rattle.gv_facts.specs.declared.kinds.Class.TheVariants.{Required, Depend, Bdepend, Rdepend, Pdepend, Idepend}
+use Rattle.gv_facts.specs.declared.kinds.Class.TheVariants.{Bdepend, Depend, Idepend, Pdepend, Rdepend, Required}
 use Rattle.gv_facts.specs.declared.pkg.Pkg.{Pkg}
 use Rattle.gv_report.specs.Order.{subject_cmp}
 use Rattle.gv_report.specs.declared.report.Report.{Report}
 use Rattle.gv_report.specs.declared.report.Subject.{Subject}
 use Rattle.gv_report.specs.declared.report.Subject.TheVariants.{Package, Place}
 use Rattle.gv_reload.specs.EntryEdits.{EditedInLaw, is_edited, is_edited_in}
-use Rattle.gv_renew.specs.Lasting.{are_together, category_at, is_near, is_of_name, may_be_stale, touches_place, NoneStale}
+use Rattle.gv_renew.specs.Lasting.{NoneStale, are_together, category_at, is_near, is_of_name, may_be_stale, touches_place}
 use Rattle.gv_renew.specs.Renewal.{rests_on_atoms}
-use Rattle.gv_checks.specs.RepoReports.{subject_of}
+use Rattle.gv_plain.specs.PlainReports.{subject_of}
 use Rattle.gv_renew.specs.Touched.{is_stale_among, is_stale_at, is_stale_by, mentions_at, pkg_at, touches}
 use Rattle.gv_renew.specs.declared.touched.Touched.{Touched}
-use Rattle.gv_checks.specs.Lists.{any_map, items_from}
+use Rattle.gv_plain.specs.Lists.{any_map, items_from}
 use Rattle.gv_renew.proofs.RunLemmas.{is_equal, same}
 use Rattle.gv_renew.proofs.StaleLemmas.{both_equal, of_name, place_stale, places_map}
 

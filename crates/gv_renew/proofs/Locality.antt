@@ -8,7 +8,7 @@ use Rattle.std.specs.Str.{bytes_eq}
 use Rattle.gv_atom.specs.Items.{is_blocker}
 use Rattle.gv_atom.specs.declared.atom.Atom.{Atom}
 use Rattle.gv_atom.specs.declared.atom.Block.{Block}
-use Rattle.gv_atom.specs.declared.atom.Block.TheVariants.{No, Weak, Strong}
+use Rattle.gv_atom.specs.declared.atom.Block.TheVariants.{No, Strong, Weak}
 use Rattle.gv_entry.specs.Allowed.{Parent, assignment, class_holds, first_failing, is_allowed, item_holds}
 use Rattle.gv_entry.specs.Holds.{any_of, dep_holds, dep_members, deps_hold, is_dep_member, is_met}
 use Rattle.gv_entry.specs.Least.{least}
@@ -30,10 +30,11 @@ use Rattle.gv_facts.specs.declared.kinds.Level.{Level}
 use Rattle.gv_facts.specs.declared.pkg.Pkg.{Pkg}
 use Rattle.gv_facts.specs.declared.profile.Profile.{Profile}
 use Rattle.gv_checks.specs.Asked.{asked_flags, asked_weight, asks, least_asked}
-use Rattle.gv_checks.specs.Cases.{case_at}
+use Rattle.gv_plain.specs.Cases.{case_at}
 use Rattle.gv_checks.specs.Queries.{Query, flags_of, query_of, weight_of}
-use Rattle.gv_checks.specs.RepoReports.{atoms_in, is_nowhere, nonexistent, nonexistent_in, query_report, report_found}
-use Rattle.gv_checks.specs.Lists.{any_among, front_two}
+use Rattle.gv_plain.specs.PlainReports.{atoms_in, is_nowhere, nonexistent, nonexistent_in}
+use Rattle.gv_checks.specs.RepoReports.{query_report, report_found}
+use Rattle.gv_plain.specs.Lists.{any_among, front_two}
 
 -- ---- lists
 

@@ -11,14 +11,14 @@ use Rattle.gv_base.specs.Order.{has_text}
 use Rattle.gv_atom.specs.declared.atom.Atom.{Atom}
 use Rattle.gv_entry.specs.declared.entry.Body.{Body}
 use Rattle.gv_facts.specs.declared.kinds.Class.{Class}
-use Rattle.gv_facts.specs.declared.kinds.Class.TheVariants.{Required, Depend, Bdepend, Rdepend, Pdepend, Idepend}
+use Rattle.gv_facts.specs.declared.kinds.Class.TheVariants.{Bdepend, Depend, Idepend, Pdepend, Rdepend, Required}
 use Rattle.gv_reading.specs.Paths.{within}
 use Rattle.gv_reload.specs.EntryEdits.{entry_name}
-use Rattle.gv_checks.specs.Classes.{classes}
+use Rattle.gv_plain.specs.Classes.{classes}
 use Rattle.gv_renew.specs.Mentioned.{AreMarked, atom_number, class_numbers, is_marked, name_number, numbers_of}
 use Rattle.gv_renew.specs.Renewal.{is_wanted, mentions}
-use Rattle.gv_checks.specs.RepoReports.{atoms_in}
-use Rattle.gv_checks.specs.Lists.{drop_here}
+use Rattle.gv_plain.specs.PlainReports.{atoms_in}
+use Rattle.gv_plain.specs.Lists.{drop_here}
 
 -- ---- one mark more
 set_here : (marks : List Bool) (place : ℕ) → is_marked (slice_set marks place true) place ≡ true

@@ -9,7 +9,7 @@ use Rattle.gv_facts.specs.declared.pkg.Pkg.{Pkg}
 use Rattle.gv_reading.specs.Paths.{within}
 use Rattle.gv_reload.specs.EntryEdits.{is_edited_pkg, is_other, together}
 use Rattle.gv_renew.specs.Mentioned.{member_body, name_number, number_with}
-use Rattle.gv_checks.specs.Lists.{drop_here}
+use Rattle.gv_plain.specs.Lists.{drop_here}
 
 pub number_within : (category name : List ℕ) → fold number_with (number_with (fold number_with 0 category) 47) name ≡ name_number (within category name)
 number_within category name = sym (fold-append number_with 0 category (47 ∷ name))

@@ -15,7 +15,7 @@ use Rattle.gv_report.specs.declared.report.Report.{Report}
 use Rattle.gv_report.specs.declared.report.Subject.{Subject}
 use Rattle.gv_load.specs.Repository.{AreInPackageOrder}
 use Rattle.gv_load.specs.declared.loading.Repo.{Repo}
-use Rattle.gv_checks.specs.Cases.{members}
+use Rattle.gv_plain.specs.Cases.{members}
 use Rattle.gv_checks.specs.Certs.{CountsAtMost}
 use Rattle.gv_renew.specs.Due.{AreAnswered, IsRenewedHere}
 use Rattle.gv_reload.specs.EntryEdits.{IsPartOf, is_edited}
@@ -23,8 +23,8 @@ use Rattle.gv_checks.specs.Limits.{Refuses, RefusesFirst}
 use Rattle.gv_checks.specs.Queries.{queries}
 use Rattle.gv_renew.specs.Renewal.{AreOfBefore, IsRenewed, fresh_reports, is_due, is_lasting, is_stale, is_stale_class, mentions, rests_on_atoms, told_anew}
 use Rattle.gv_renew.specs.Renewing.{FollowsOrder, RenewedLaw}
-use Rattle.gv_checks.specs.RepoReports.{readable_classes, subject_of}
-use Rattle.gv_checks.specs.Telling.{PartsLaw}
+use Rattle.gv_plain.specs.PlainReports.{readable_classes, subject_of}
+use Rattle.gv_checks.specs.Parts.{PartsLaw}
 use Rattle.gv_checks.specs.Views.{Walk}
 use Rattle.gv_renew.specs.Touched.{AreTouched, IsTouched, anew_at, is_lasting_by, is_stale_among, is_stale_by, member_at, mentions_at}
 use Rattle.gv_checks.specs.declared.fault.JudgeFault.{JudgeFault}

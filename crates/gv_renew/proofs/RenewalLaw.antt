@@ -16,20 +16,21 @@ use Rattle.gv_report.specs.Order.{subject_cmp}
 use Rattle.gv_report.specs.Selecting.{selected}
 use Rattle.gv_report.specs.declared.options.Options.{Options}
 use Rattle.gv_report.specs.declared.report.Report.{Report}
-use Rattle.gv_checks.specs.Cases.{Member, members}
+use Rattle.gv_plain.specs.Cases.{Member, members}
 use Rattle.gv_reload.specs.EntryEdits.{IsPartOf, is_about, is_edited}
 use Rattle.gv_checks.specs.Limits.{IsWithin, Refuses, RefusesFirst}
-use Rattle.gv_checks.specs.Plain.{told_member}
+use Rattle.gv_plain.specs.Plain.{told_member}
 use Rattle.gv_checks.specs.Queries.{queries}
 use Rattle.gv_renew.specs.Renewal.{AreOfBefore, fresh_reports, is_due, is_lasting, is_stale, is_stale_class, mentions, rests_on_atoms, told_anew}
 use Rattle.gv_renew.specs.Renewing.{FollowsOrder, RenewedLaw, is_tied}
-use Rattle.gv_checks.specs.RepoReports.{atoms_in, query_report, reports, scan_reports}
-use Rattle.gv_checks.specs.Telling.{PartsLaw}
+use Rattle.gv_plain.specs.PlainReports.{atoms_in}
+use Rattle.gv_checks.specs.RepoReports.{query_report, reports, scan_reports}
+use Rattle.gv_checks.specs.Parts.{PartsLaw}
 use Rattle.gv_checks.specs.declared.fault.JudgeFault.{JudgeFault}
 use Rattle.gv_load.specs.Repository.{AreInPackageOrder}
 use Rattle.gv_load.specs.declared.loading.Repo.{Repo}
 use Rattle.gv_renew.proofs.Locality.{Alike, all_weaker, filter_among, report_alike}
-use Rattle.gv_checks.specs.Lists.{filter_flat}
+use Rattle.gv_plain.specs.Lists.{filter_flat}
 use Rattle.gv_renew.proofs.RenewalLimits.{refuses_all, within_all}
 use Rattle.gv_renew.proofs.RenewalMembers.{each_of_old, members_same, unmentioned_alike}
 use Rattle.gv_renew.proofs.RenewalQueries.{as_list, found_flat, is_past, lasting_asked, past_same, stale_asked}

@@ -12,9 +12,9 @@ use Rattle.gv_reload.specs.EntryEdits.{DifferIn}
 use Rattle.gv_checks.specs.Limits.{IsFirstRefused, IsRefused, IsWithin, Refuses, RefusesFirst}
 use Rattle.gv_checks.specs.Queries.{Query, queries}
 use Rattle.gv_renew.specs.Renewal.{is_due, mentions}
-use Rattle.gv_checks.specs.RepoReports.{atoms_in}
+use Rattle.gv_plain.specs.PlainReports.{atoms_in}
 use Rattle.gv_checks.specs.declared.fault.JudgeFault.{JudgeFault}
-use Rattle.gv_checks.specs.declared.fault.JudgeFault.TheVariants.{Spent, Limit, NoMemory}
+use Rattle.gv_checks.specs.declared.fault.JudgeFault.TheVariants.{Limit, NoMemory, Spent}
 use Rattle.gv_renew.proofs.Locality.{Alike, limits_alike, limits_of}
 use Rattle.gv_renew.proofs.RenewalQueries.{is_past, past_same}
 

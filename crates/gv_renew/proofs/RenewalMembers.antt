@@ -18,10 +18,10 @@ use Rattle.gv_facts.specs.declared.profile.Profile.{Profile}
 use Rattle.gv_reading.specs.Paths.{within}
 use Rattle.gv_load.specs.declared.loading.Repo.{Repo}
 use Rattle.gv_load.specs.declared.members.Member as loaded
-use Rattle.gv_checks.specs.Cases.{Case, Member, case_at, case_in, members, members_from}
+use Rattle.gv_plain.specs.Cases.{Case, Member, case_at, case_in, members, members_from}
 use Rattle.gv_reload.specs.EntryEdits.{DifferIn, HasEditedName, entry_name, is_edited_pkg, is_other, together}
 use Rattle.gv_renew.specs.Renewal.{is_wanted, mentions}
-use Rattle.gv_checks.specs.RepoReports.{atoms_in}
+use Rattle.gv_plain.specs.PlainReports.{atoms_in}
 use Rattle.gv_renew.proofs.Locality.{Alike}
 
 -- ---- cases

@@ -12,14 +12,15 @@ use Rattle.gv_facts.specs.declared.profile.Profile.{Profile}
 use Rattle.gv_report.specs.declared.options.Options.{Options}
 use Rattle.gv_report.specs.declared.report.Report.{Report}
 use Rattle.gv_load.specs.declared.loading.Repo.{Repo}
-use Rattle.gv_checks.specs.Cases.{Case, Member, case_at, case_in, cases_of, members}
-use Rattle.gv_checks.specs.Classes.{classes}
+use Rattle.gv_plain.specs.Cases.{Case, Member, case_at, case_in, cases_of, members}
+use Rattle.gv_plain.specs.Classes.{classes}
 use Rattle.gv_reload.specs.EntryEdits.{DifferIn, is_edited_pkg}
 use Rattle.gv_checks.specs.Queries.{Query, case_queries, is_asked, queries, query_of}
 use Rattle.gv_renew.specs.Renewal.{is_due, is_lasting, is_stale, mentions}
-use Rattle.gv_checks.specs.RepoReports.{atoms_in, query_report}
+use Rattle.gv_plain.specs.PlainReports.{atoms_in}
+use Rattle.gv_checks.specs.RepoReports.{query_report}
 use Rattle.gv_renew.proofs.Locality.{Alike, all_weaker}
-use Rattle.gv_checks.specs.Lists.{filter_flat, flat_same}
+use Rattle.gv_plain.specs.Lists.{filter_flat, flat_same}
 use Rattle.gv_renew.proofs.RenewalMembers.{NoneEdited, NumberFree, cases_alike, members_same}
 use Rattle.gv_renew.proofs.RenewalStale.{KnownIf, report_stale}
 use Rattle.gv_renew.proofs.RenewalTold.{all_join, filter_refused}

@@ -17,7 +17,7 @@ use Rattle.gv_expr.specs.Dep.{Dep}
 use Rattle.gv_facts.specs.declared.kinds.Class.{Class}
 use Rattle.gv_facts.specs.declared.kinds.Class.TheVariants as classes
 use Rattle.gv_facts.specs.declared.kinds.Status.{Status}
-use Rattle.gv_facts.specs.declared.kinds.Status.TheVariants.{Stable, Dev, Exp}
+use Rattle.gv_facts.specs.declared.kinds.Status.TheVariants.{Dev, Exp, Stable}
 use Rattle.gv_facts.specs.declared.pkg.Pkg.{Pkg}
 use Rattle.gv_report.specs.Keyword.{keyword_number}
 use Rattle.gv_report.specs.Order.{class_number, kind_cmp, of_package, subject_cmp}
@@ -25,15 +25,16 @@ use Rattle.gv_report.specs.declared.keyword.Keyword.{Keyword}
 use Rattle.gv_report.specs.declared.keyword.Keyword.TheVariants as keywords
 use Rattle.gv_report.specs.declared.report.Report.{Report}
 use Rattle.gv_report.specs.declared.report.Subject.{Subject}
-use Rattle.gv_report.specs.declared.report.Subject.TheVariants.{Place, Package}
+use Rattle.gv_report.specs.declared.report.Subject.TheVariants.{Package, Place}
 use Rattle.gv_load.specs.Paths.{entry_path}
 use Rattle.gv_load.specs.Repository.{AreInPackageOrder, pkg_cmp}
-use Rattle.gv_checks.specs.Cases.{Case, Member, members_from}
+use Rattle.gv_plain.specs.Cases.{Case, Member, members_from}
 use Rattle.gv_reload.specs.EntryEdits.{is_edited, is_edited_pkg}
 use Rattle.gv_checks.specs.Queries.{Query, class_keyword, class_of, least_of}
 use Rattle.gv_renew.specs.Renewal.{is_due, is_stale, is_stale_class, mentions, rests_on_atoms}
 use Rattle.gv_renew.specs.Renewing.{FollowsOrder, is_tied}
-use Rattle.gv_checks.specs.RepoReports.{live, nonexistent, nonsolvable, query_report, report_found, subject_of, unsatisfiable, unstated}
+use Rattle.gv_plain.specs.PlainReports.{live, nonexistent, subject_of, unstated}
+use Rattle.gv_checks.specs.RepoReports.{nonsolvable, query_report, report_found, unsatisfiable}
 use Rattle.std.proofs.lemmas.Option.{none-some, same_Some}
 
 -- ---- what is tied is tied in each part

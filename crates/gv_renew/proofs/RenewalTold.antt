@@ -15,14 +15,13 @@ use Rattle.gv_report.specs.declared.keyword.Keyword.TheVariants as keywords
 use Rattle.gv_report.specs.declared.options.Options.{Options}
 use Rattle.gv_report.specs.declared.report.Report.{Report}
 use Rattle.gv_load.specs.declared.loading.Repo.{Repo}
-use Rattle.gv_checks.specs.Cases.{Case, Member, case_at, case_in, cases_of}
+use Rattle.gv_plain.specs.Cases.{Case, Member, case_at, case_in, cases_of}
 use Rattle.gv_reload.specs.EntryEdits.{is_edited_pkg}
-use Rattle.gv_checks.specs.Plain.{told_case, told_live, told_member, told_nonexistent, told_unstated}
-use Rattle.gv_checks.specs.Queries.{is_told}
+use Rattle.gv_plain.specs.Plain.{is_told, told_case, told_live, told_member, told_nonexistent, told_unstated}
 use Rattle.gv_renew.specs.Renewal.{is_lasting, is_stale, mentions, told_anew, told_anew_in}
-use Rattle.gv_checks.specs.RepoReports.{atoms_in, live_in, nonexistent, nonexistent_in, readable_classes, unstated, unstated_in}
+use Rattle.gv_plain.specs.PlainReports.{atoms_in, live_in, nonexistent, nonexistent_in, readable_classes, unstated, unstated_in}
 use Rattle.gv_renew.proofs.Locality.{Alike, nonexistent_alike}
-use Rattle.gv_checks.specs.Lists.{filter_flat, flat_same, one_kind}
+use Rattle.gv_plain.specs.Lists.{filter_flat, flat_same, one_kind}
 use Rattle.gv_renew.proofs.RenewalMembers.{NoneEdited, NumberFree, cases_alike}
 use Rattle.gv_renew.proofs.RenewalStale.{KnownIf, due_in, live_stale, nonexistent_stale, unstated_stale}
 

@@ -18,10 +18,10 @@ use Rattle.gv_facts.specs.declared.pkg.Pkg.{Pkg}
 use Rattle.gv_report.specs.Order.{subject_cmp}
 use Rattle.gv_report.specs.declared.report.Subject.{Subject}
 use Rattle.gv_report.specs.declared.report.Subject.TheVariants.{Package, Place}
-use Rattle.gv_checks.specs.RepoReports.{subject_of}
+use Rattle.gv_plain.specs.PlainReports.{subject_of}
 use Rattle.gv_renew.specs.Touched.{is_stale_among, is_stale_at, is_stale_place, mentions_at, pkg_at}
 use Rattle.gv_renew.specs.declared.touched.Touched.{Touched}
-use Rattle.gv_checks.specs.Lists.{any_among, any_map, items_from}
+use Rattle.gv_plain.specs.Lists.{any_among, any_map, items_from}
 
 -- equal subjects have one category and name
 pub both_equal : (a b : Ordering) → is_eq (ordering_then a b) ≡ true → (is_eq a ≡ true) × (is_eq b ≡ true)

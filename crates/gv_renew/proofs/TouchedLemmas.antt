@@ -6,13 +6,13 @@ use Rattle.std.specs.Prelude.{flat_map, slice_get}
 use Rattle.std.specs.List.{AllByRecursion}
 use Rattle.gv_entry.specs.declared.entry.Body.{Body}
 use Rattle.gv_facts.specs.declared.kinds.Class.{Class}
-use Rattle.gv_facts.specs.declared.kinds.Class.TheVariants.{Required, Depend, Bdepend, Rdepend, Pdepend, Idepend}
+use Rattle.gv_facts.specs.declared.kinds.Class.TheVariants.{Bdepend, Depend, Idepend, Pdepend, Rdepend, Required}
 use Rattle.gv_facts.specs.declared.pkg.Pkg.{Pkg}
-use Rattle.gv_checks.specs.Cases.{Member, members_from}
+use Rattle.gv_plain.specs.Cases.{Member, members_from}
 use Rattle.gv_renew.specs.Renewal.{mentions}
 use Rattle.gv_renew.specs.Touched.{AreTouched, IsFound, IsIn, IsSoFar, IsTouched, member_at, mentions_at, pkg_at}
 use Rattle.gv_renew.specs.declared.touched.Touched.{Touched}
-use Rattle.gv_checks.specs.Lists.{drop_here}
+use Rattle.gv_plain.specs.Lists.{drop_here}
 
 -- of one package
 class_found : (paths : List (List ℕ)) (m : Member) (t : Touched) → IsFound paths m t → (class : Class) → mentions_at t class ≡ mentions paths m.body class

@@ -8,7 +8,7 @@ use Rattle.gv_report.specs.Distinct.{ordered}
 use Rattle.gv_report.specs.declared.options.Options.{Options}
 use Rattle.gv_report.specs.declared.report.Report.{Report}
 use Rattle.gv_load.specs.declared.loading.Repo.{Repo}
-use Rattle.gv_checks.specs.Cases.{members}
+use Rattle.gv_plain.specs.Cases.{members}
 use Rattle.gv_checks.specs.Limits.{IsWithin}
 use Rattle.gv_checks.specs.Queries.{Query, queries}
 use Rattle.gv_renew.specs.Renewal.{fresh_reports, is_due, is_lasting}

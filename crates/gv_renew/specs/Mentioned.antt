@@ -11,8 +11,8 @@ use Rattle.gv_reading.specs.Paths.{within}
 use Rattle.gv_reload.specs.EntryEdits.{is_other, members_of}
 use Rattle.gv_load.specs.declared.loading.Repo.{Repo}
 use Rattle.gv_load.specs.declared.members.Member.{Member}
-use Rattle.gv_checks.specs.Classes.{classes}
-use Rattle.gv_checks.specs.RepoReports.{atoms_in}
+use Rattle.gv_plain.specs.Classes.{classes}
+use Rattle.gv_plain.specs.PlainReports.{atoms_in}
 
 abbrev pub member_body : Member → Body
 member_body m = m.body

@@ -23,11 +23,12 @@ use Rattle.gv_report.specs.declared.report.Subject.{Subject}
 use Rattle.gv_reload.specs.EntryEdits.{DifferIn, entry_name, is_edited, is_edited_pkg}
 use Rattle.gv_load.specs.Repository.{AreInPackageOrder}
 use Rattle.gv_load.specs.declared.loading.Repo.{Repo}
-use Rattle.gv_checks.specs.Cases.{Member, members}
+use Rattle.gv_plain.specs.Cases.{Member, members}
 use Rattle.gv_checks.specs.Limits.{IsWithin}
-use Rattle.gv_checks.specs.Plain.{told_member}
+use Rattle.gv_plain.specs.Plain.{told_member}
 use Rattle.gv_checks.specs.Queries.{Query, queries}
-use Rattle.gv_checks.specs.RepoReports.{atoms_in, nonexistent_in, query_report, readable_classes, scan_reports, subject_of}
+use Rattle.gv_plain.specs.PlainReports.{atoms_in, nonexistent_in, readable_classes, subject_of}
+use Rattle.gv_checks.specs.RepoReports.{query_report, scan_reports}
 
 -- ---- what is due
 

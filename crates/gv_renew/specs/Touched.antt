@@ -8,7 +8,7 @@ use Rattle.std.specs.Option.{option_map_or}
 use Rattle.std.specs.Ordering.{eq_by_cmp}
 use Rattle.gv_entry.specs.declared.entry.Body.{Body}
 use Rattle.gv_facts.specs.declared.kinds.Class.{Class}
-use Rattle.gv_facts.specs.declared.kinds.Class.TheVariants.{Required, Depend, Bdepend, Rdepend, Pdepend, Idepend}
+use Rattle.gv_facts.specs.declared.kinds.Class.TheVariants.{Bdepend, Depend, Idepend, Pdepend, Rdepend, Required}
 use Rattle.gv_facts.specs.declared.pkg.Pkg.{Pkg}
 use Rattle.gv_report.specs.Keyword.{has_keyword}
 use Rattle.gv_report.specs.Order.{subject_cmp}
@@ -17,13 +17,13 @@ use Rattle.gv_report.specs.declared.options.Options.{Options}
 use Rattle.gv_report.specs.declared.report.Report.{Report}
 use Rattle.gv_report.specs.declared.report.Subject.{Subject}
 use Rattle.gv_load.specs.declared.loading.Repo.{Repo}
-use Rattle.gv_checks.specs.Cases.{Member, members_from}
-use Rattle.gv_checks.specs.Classes.{classes}
+use Rattle.gv_plain.specs.Cases.{Member, members_from}
+use Rattle.gv_plain.specs.Classes.{classes}
 use Rattle.gv_reload.specs.EntryEdits.{is_edited, is_edited_pkg}
-use Rattle.gv_checks.specs.Plain.{told_member}
+use Rattle.gv_plain.specs.Plain.{told_member}
 use Rattle.gv_renew.specs.Renewal.{mentions, rests_on_atoms}
-use Rattle.gv_checks.specs.RepoReports.{is_readable, nonexistent_in, subject_of}
-use Rattle.gv_checks.specs.Telling.{told_of_class_at}
+use Rattle.gv_plain.specs.PlainReports.{is_readable, nonexistent_in, subject_of}
+use Rattle.gv_plain.specs.Telling.{told_of_class_at}
 use Rattle.gv_renew.specs.declared.touched.Touched.{Touched}
 
 -- what was found of a class

@@ -7,7 +7,7 @@ ghost use Rattle.std.specs.Ordering.{eq_by_cmp};
 ghost use Rattle.gv_report.specs.Order.{subject_cmp};
 ghost use Rattle.gv_report.specs.declared.report.Subject.TheVariants.{Package};
 ghost use Rattle.gv_renew.specs.Renewal.{rests_on_atoms};
-ghost use Rattle.gv_checks.specs.RepoReports.{subject_of};
+ghost use Rattle.gv_plain.specs.PlainReports.{subject_of};
 ghost use Rattle.gv_renew.specs.Touched.{is_stale_among, is_stale_at, is_stale_by, is_stale_in, is_stale_place, pkg_at};
 
 use crate::touched::Touched;

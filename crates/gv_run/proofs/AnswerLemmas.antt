@@ -42,14 +42,14 @@ use Rattle.gv_checks.specs.Queries.{Query, class_of, gates_bytes, gates_of, leas
 use Rattle.gv_checks.specs.RepoReports.{report_found, reports, scan_reports, scan_text}
 use Rattle.gv_checks.specs.declared.whole.Judged.{Judged}
 use Rattle.gv_run.specs.declared.answering.Answers.{Answers}
-use Rattle.gv_run.specs.Causes.{Causes, Why, of_queries, of_reading}
+use Rattle.gv_ending.specs.Causes.{Causes, Why, of_queries, of_reading}
 use Rattle.gv_run.specs.Naming.{name_text, query_text}
 use Rattle.gv_run.specs.Refusing.{HandsJudge, HandsLoad}
 use Rattle.gv_run.specs.Scan.{IsLoaded, IsUnloaded}
 use Rattle.gv_run.specs.Scanning.{AreAnswered, AreUnbacked, Scanning, certs_file, scan_of}
 use Rattle.gv_run.specs.ScanSteps.{AreAnswersOf, HasAnswers, IsUnanswered, IsUnread, answer_causes, reading}
 use Rattle.gv_run.proofs.Whys.{from_queries, why_on}
-use Rattle.gv_run.specs.declared.refusal.Refusal.{Refusal}
+use Rattle.gv_ending.specs.declared.refusal.Refusal.{Refusal}
 use Rattle.gv_run.specs.Silences.{IsRefutedIfSilent, IsSilent}
 use Rattle.gv_run.proofs.NamedQuery.{EachNamed, text_of}
 

@@ -24,15 +24,15 @@ use Rattle.gv_checks.specs.RepoReports.{scan_text}
 use Rattle.gv_checks.specs.declared.fault.JudgeFault.{JudgeFault}
 use Rattle.gv_checks.specs.declared.fault.JudgeFault.TheVariants as judges
 use Rattle.gv_checks.specs.declared.names.QueryName.{QueryName}
-use Rattle.gv_run.specs.declared.refusal.Refusal.{Refusal}
-use Rattle.gv_run.specs.declared.refusal.Refusal.TheVariants.{TreeFailed, StoreFailed, OutputFailed, Spent, NoMemory, NotARepository, Limit, Lacks}
-use Rattle.gv_run.specs.Causes.{Why}
-use Rattle.gv_run.specs.Endings.{Told, SaysNothing, TellsRefusal, well_status}
-use Rattle.gv_run.specs.Fetching.{IsGiven}
-use Rattle.gv_run.specs.Performs.{Ending, Roots, Runs}
+use Rattle.gv_ending.specs.declared.refusal.Refusal.{Refusal}
+use Rattle.gv_ending.specs.declared.refusal.Refusal.TheVariants.{TreeFailed, StoreFailed, OutputFailed, Spent, NoMemory, NotARepository, Limit, Lacks}
+use Rattle.gv_ending.specs.Causes.{Why}
+use Rattle.gv_ending.specs.Endings.{Ending, SaysNothing, TellsRefusal, Told, well_status}
+use Rattle.gv_ending.specs.Fetching.{IsGiven}
+use Rattle.gv_run.specs.Performs.{Runs}
 use Rattle.gv_run.specs.Scan.{AllFit, Fits, IsCovered, IsLoaded, IsPastOne, IsUnloaded, OneIsPast, Says, SaysOf, said_by, unloaded_status}
 use Rattle.gv_run.specs.Scanning.{scan_causes}
-use Rattle.gv_run.specs.World.{Fed, World}
+use Rattle.gv_ending.specs.World.{Fed, Roots, World}
 use Rattle.gv_run.proofs.Performed.{Ends, ends, five_only, or_five, or_unbegun}
 
 pub one_of : {A : Type 0} (P : A → Type 0) (xs : List A) (y : A) (ys : List A) → AllByRecursion P (xs ++ y ∷ ys) → P y

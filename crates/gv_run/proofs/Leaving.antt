@@ -6,10 +6,10 @@ use Rattle.std.specs.Option.{option_map}
 use Rattle.gv_base.specs.Causes.{Rose}
 use Rattle.gv_base.specs.FileMap.{FileMap}
 use Rattle.gv_run.specs.declared.answering.Answers.{Answers}
-use Rattle.gv_run.specs.declared.refusal.Refusal.{Refusal}
-use Rattle.gv_run.specs.Causes.{Why, of_output, of_store}
-use Rattle.gv_run.specs.Endings.{GainsFront}
-use Rattle.gv_run.specs.ScanSteps.{FailsAt, IsKept, IsUnkept, leave_causes, writing}
+use Rattle.gv_ending.specs.declared.refusal.Refusal.{Refusal}
+use Rattle.gv_ending.specs.Causes.{FailsAt, Why, of_output, of_store}
+use Rattle.gv_ending.specs.Endings.{GainsFront}
+use Rattle.gv_run.specs.ScanSteps.{IsKept, IsUnkept, leave_causes, writing}
 use Rattle.gv_run.proofs.Whys.{from_output, from_store}
 
 module _ (path : List ℕ) (answers : Answers) (k k' : Option FileMap) (kb kn : ℕ) where

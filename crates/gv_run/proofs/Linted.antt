@@ -23,17 +23,17 @@ use Rattle.gv_profcheck.specs.Unknown.{unknown_reports}
 use Rattle.gv_words.specs.Command.{IsCommand, IsOneCommand}
 use Rattle.gv_words.specs.declared.command.Command.TheVariants as commands
 use Rattle.gv_words.specs.declared.command.Linting.{Linting}
-use Rattle.gv_run.specs.declared.refusal.Refusal.{Refusal}
-use Rattle.gv_run.specs.declared.refusal.Refusal.TheVariants.{TreeFailed, OutputFailed, NoMemory, NotARepository, Limit}
-use Rattle.gv_run.specs.Causes.{Causes, Why, of_output, of_reading}
-use Rattle.gv_run.specs.Endings.{GainsFront, Told, SaysNothing, TellsRefusal, well_status}
+use Rattle.gv_ending.specs.declared.refusal.Refusal.{Refusal}
+use Rattle.gv_ending.specs.declared.refusal.Refusal.TheVariants.{TreeFailed, OutputFailed, NoMemory, NotARepository, Limit}
+use Rattle.gv_ending.specs.Causes.{Causes, Why, of_output, of_reading}
+use Rattle.gv_ending.specs.Endings.{Ending, GainsFront, SaysNothing, TellsRefusal, Told, well_status}
 use Rattle.gv_run.specs.Lint.{CutsLint, IsRead, IsUnlinted, IsUnwalked, IsWalked, LintSays, Lints, RepoSays, WalkSays, lint_causes, lint_reports, lint_text}
 use Rattle.gv_run.specs.LintSteps.{IsLinted, IsUnmade, IsUnwalkedAt}
-use Rattle.gv_run.specs.Performs.{Ending, Performs, Roots, Runs}
+use Rattle.gv_run.specs.Performs.{Performs, Runs}
 use Rattle.gv_run.specs.Refusing.{HandsLoad}
 use Rattle.gv_run.specs.Scan.{IsLoaded, IsUnloaded, said_by, unloaded_status}
 use Rattle.gv_run.specs.ScanSteps.{IsUnread}
-use Rattle.gv_run.specs.World.{Fed, World, world}
+use Rattle.gv_ending.specs.World.{Fed, Roots, World, world}
 use Rattle.gv_run.proofs.AnswerLemmas.{PickedLaw}
 use Rattle.gv_run.proofs.Performed.{Ends, ends, five_only, or_five, or_unbegun}
 use Rattle.gv_run.proofs.Scanned.{code_said}

@@ -28,17 +28,17 @@ use Rattle.gv_words.specs.Command.{IsCommand, IsOneCommand}
 use Rattle.gv_words.specs.declared.command.Command.TheVariants as commands
 use Rattle.gv_words.specs.declared.command.OverlayScan.{OverlayScan}
 use Rattle.gv_run.specs.declared.answering.Answers.{Answers}
-use Rattle.gv_run.specs.declared.refusal.Refusal.{Refusal}
-use Rattle.gv_run.specs.declared.refusal.Refusal.TheVariants.{TreeFailed, StoreFailed, OutputFailed, Spent, NoMemory, NotARepository, Limit, Lacks}
-use Rattle.gv_run.specs.Causes.{Causes, Why, of_queries, of_reading, of_store}
-use Rattle.gv_run.specs.Endings.{Told, SaysNothing, TellsRefusal, well_status}
-use Rattle.gv_run.specs.Fetching.{IsGiven}
+use Rattle.gv_ending.specs.declared.refusal.Refusal.{Refusal}
+use Rattle.gv_ending.specs.declared.refusal.Refusal.TheVariants.{TreeFailed, StoreFailed, OutputFailed, Spent, NoMemory, NotARepository, Limit, Lacks}
+use Rattle.gv_ending.specs.Causes.{Causes, FailsAt, Why, of_queries, of_reading, of_store}
+use Rattle.gv_ending.specs.Endings.{Ending, SaysNothing, TellsRefusal, Told, well_status}
+use Rattle.gv_ending.specs.Fetching.{IsGiven}
 use Rattle.gv_run.specs.Overlaying.{IsNotOverlaid, IsOverlaid, OverlaySays, OverlaySaysBy, overlay_causes, overlay_of, overlay_status}
-use Rattle.gv_run.specs.Performs.{Ending, Performs, Roots, Runs}
+use Rattle.gv_run.specs.Performs.{Performs, Runs}
 use Rattle.gv_run.specs.Refusing.{HandsJudge, HandsOverlay}
 use Rattle.gv_run.specs.Scan.{SaysOf}
-use Rattle.gv_run.specs.ScanSteps.{AreAnswersOf, FailsAt, HasAnswers, HasLeft, IsUnanswered, IsUnreadBy, answer_causes, leave_causes, reading, writing}
-use Rattle.gv_run.specs.World.{Fed, World, world}
+use Rattle.gv_run.specs.ScanSteps.{AreAnswersOf, HasAnswers, HasLeft, IsUnanswered, IsUnreadBy, answer_causes, leave_causes, reading, writing}
+use Rattle.gv_ending.specs.World.{Fed, Roots, World, world}
 use Rattle.gv_run.proofs.AnswerLemmas.{GatesLaw, PickedLaw, RecordsLaw, of_judged, picked_text, unjudged_of}
 use Rattle.gv_run.proofs.NamedQuery.{text_in}
 use Rattle.gv_run.proofs.Endings.{says_done, says_limit, says_spent}

@@ -38,16 +38,16 @@ use Rattle.gv_merge.specs.declared.merging.MergeFault.{MergeFault}
 use Rattle.gv_merge.specs.declared.merging.MergeFault.TheVariants as faults
 use Rattle.gv_merge.specs.declared.merging.Merged.{Merged}
 use Rattle.gv_merge.specs.declared.parts.Part.{Part}
-use Rattle.gv_run.specs.declared.refusal.Refusal.{Refusal}
-use Rattle.gv_run.specs.declared.refusal.Refusal.TheVariants.{TreeFailed, StoreFailed, OutputFailed, Spent, NoMemory, NotARepository, Limit, Lacks}
-use Rattle.gv_run.specs.Causes.{Why}
-use Rattle.gv_run.specs.Endings.{Told, SaysNothing, TellsRefusal, refusal_status, well_status}
-use Rattle.gv_run.specs.Fetching.{AreJoined, IsGiven, file_at}
+use Rattle.gv_ending.specs.declared.refusal.Refusal.{Refusal}
+use Rattle.gv_ending.specs.declared.refusal.Refusal.TheVariants.{TreeFailed, StoreFailed, OutputFailed, Spent, NoMemory, NotARepository, Limit, Lacks}
+use Rattle.gv_ending.specs.Causes.{Why}
+use Rattle.gv_ending.specs.Endings.{Ending, SaysNothing, TellsRefusal, Told, refusal_status, well_status}
+use Rattle.gv_ending.specs.Fetching.{AreJoined, IsGiven, file_at}
 use Rattle.gv_run.specs.Parting.{AreLeftByPartScans, IsLeftByPartScan, MergeSays, PartSays}
-use Rattle.gv_run.specs.Performs.{Ending, Roots, Runs, Unbegun}
+use Rattle.gv_run.specs.Performs.{Runs, Unbegun}
 use Rattle.gv_run.specs.Scan.{IsCovered, IsLoaded, IsUnloaded, said_by, unloaded_status}
 use Rattle.gv_run.specs.Scanning.{merge_causes, part_causes}
-use Rattle.gv_run.specs.World.{Fed, SameOut, World}
+use Rattle.gv_ending.specs.World.{Fed, Roots, SameOut, World}
 use Rattle.gv_run.proofs.Endings.{covered_not_spent, one_of, within_not_past}
 use Rattle.gv_run.proofs.Performed.{Ends, ends, five_only, or_five, or_unbegun, refused_status}
 use Rattle.gv_run.proofs.VerifyEndings.{not_unloaded, one_repo}

@@ -1,15 +1,11 @@
 -- From judging a part, and from merging records, to what a scan of a part and a merge leave.
-use Rattle.std.proofs.Common.{◌≡◌, ℕ, zero, suc, ◌+◌, ◌<◌, ◌≤◌, Bool, ◌||◌, get_or, true, false, List, [], ◌∷◌, ◌++◌, length, drop, map, filter, Some, None, refl, sym, ap, subst, ◌∙◌, inl, inr, arith, append_assoc, append-nil, drop-cons}
+use Rattle.std.proofs.Common.{◌≡◌, ℕ, ◌≤◌, true, false, List, [], ◌∷◌, length, map, filter, Some, None, refl, sym, ap, subst, ◌∙◌, inl, inr, arith, append-nil}
 use Rattle.std.specs.Prelude.{Option, Ok, Err, IfOk, IfErr, not, if◌then◌else◌}
 use Rattle.std.specs.FinMap as map
 use Rattle.std.specs.List.{AllByRecursion}
 use Rattle.std.specs.Option.{option_map}
-use Rattle.std.specs.Str.{bytes_eq}
-use Rattle.std.proofs.lemmas.Cmp.{nat_list_eq_equiv}
-use Rattle.gv_base.specs.Causes.{Rose}
 use Rattle.gv_base.specs.Counts.{Counts}
 use Rattle.gv_base.specs.FileMap.{FileMap}
-use Rattle.gv_base.specs.Order.{has_text}
 use Rattle.gv_base.specs.Outside.{gains}
 use Rattle.gv_cert.specs.File.{ReadsFile, file_bytes}
 use Rattle.gv_cert.specs.Known.{KnownRecord}
@@ -36,21 +32,22 @@ use Rattle.gv_merge.specs.declared.merging.MergeFault.TheVariants as faults
 use Rattle.gv_merge.specs.declared.merging.Merged.{Merged}
 use Rattle.gv_merge.specs.declared.parts.Part.{Part}
 use Rattle.gv_run.specs.declared.answering.Answers.{Answers}
-use Rattle.gv_run.specs.declared.refusal.Refusal.{Refusal}
-use Rattle.gv_run.specs.Causes.{Why, of_queries, of_store}
-use Rattle.gv_run.specs.Fetching.{AreJoined, AreRecordsAt, IsGiven}
+use Rattle.gv_ending.specs.declared.refusal.Refusal.{Refusal}
+use Rattle.gv_ending.specs.Causes.{FailsAt, FailsAtOne, Why, of_queries, of_store}
+use Rattle.gv_ending.specs.Fetching.{AreJoined, IsGiven}
 use Rattle.gv_run.specs.Naming.{TellsLacking}
-use Rattle.gv_run.specs.Performs.{Ending, Performs}
+use Rattle.gv_run.specs.Performs.{Performs}
 use Rattle.gv_run.specs.Refusing.{HandsJudge, HandsMerge}
 use Rattle.gv_run.specs.Scan.{IsLoaded}
 use Rattle.gv_run.specs.Scanning.{certs_file, merge_of, part_scan_of}
-use Rattle.gv_run.specs.ScanSteps.{AreAnswersOf, FailsAt, FailsAtOne, HasAnswers, HasLeft, IsFileOf, IsUnanswered, answer_causes, leave_causes, reading, writing}
-use Rattle.gv_run.specs.World.{Fed, World, world}
+use Rattle.gv_run.specs.ScanSteps.{AreAnswersOf, HasAnswers, HasLeft, IsFileOf, IsUnanswered, answer_causes, leave_causes, reading, writing}
+use Rattle.gv_ending.specs.World.{Fed, World, world}
+use Rattle.gv_ending.specs.Endings.{Ending}
 use Rattle.gv_run.proofs.AnswerLemmas.{GatesLaw, PickedLaw, are_answered, lowered_few, not_read_of, text_is, unjudged_of, unread_causes}
 use Rattle.gv_run.proofs.Leaving.{unkept}
 use Rattle.gv_run.proofs.NamedQuery.{EachNamed, chosen_text}
 use Rattle.gv_run.proofs.Scanned.{answers_stop, leave_stops, scans, untaken}
-use Rattle.gv_run.proofs.Whys.{from_queries, from_store}
+use Rattle.gv_run.proofs.Whys.{from_queries}
 
 abbrev pub HaveLaw : Type 0
 HaveLaw = (budget : ℕ) (given : List KnownRecord) (qs : List Query) (certs : List Cert) → AreCerts budget given (map gates_of qs) certs → AllByRecursion (λ q. IsCircuit (gates_of q)) qs
@@ -241,46 +238,3 @@ module _ (input : Fed) (m : Merging) (f : Option FileMap) (t : ℕ) (k : Option 
           (subst (λ (n : ℕ). IfOk ending (HasLeft m.certs answers (writing k1 k' n kn o o' ob on))) calm done))
           (subst (λ (x : Option FileMap). IfErr ending (Why (leave_causes m.certs answers (writing x k' kb kn o o' ob on)))) kept
           (subst (λ (n : ℕ). IfErr ending (Why (leave_causes m.certs answers (writing k1 k' n kn o o' ob on)))) calm why))
-
--- ---- files fetched one after another
-
-or_true : (a b : Bool) → b ≡ true → (a || b) ≡ true
-or_true true b h = refl
-or_true false b h = h
-
--- a path that stands among others is one of them
-is_among : (paths : List (List ℕ)) (i : ℕ) (path : List ℕ) → i < length paths → path ≡ get_or paths i path → has_text paths path ≡ true
-is_among [] i path few is = absurd (omega (arith, few))
-is_among (p ∷ ps) zero path few is = ap (λ b. b || has_text ps path) (subst (λ q. bytes_eq path q ≡ true) is (nat_list_eq_equiv.refl path))
-is_among (p ∷ ps) (suc i) path few is = or_true (bytes_eq path p) (has_text ps path) (is_among ps i path (omega (arith, few)) is)
-
-pub one_fails : (paths : List (List ℕ)) (i : ℕ) (path : List ℕ) → i < length paths → path ≡ get_or paths i path → (before middle now : ℕ) → middle ≡ before → (refusal : Refusal) → Why (of_store (FailsAt path middle now)) refusal
-    → Why (of_store (FailsAtOne paths before now)) refusal
-one_fails paths i path few is before middle now calm =
-    from_store (FailsAt path middle now) (of_store (FailsAtOne paths before now))
-    (λ place fails. (subst (λ p. has_text paths p ≡ true) (sym fails.0) (is_among paths i path few is), subst (λ n. Rose n now) calm fails.1)) tt
-
-none_left : (paths : List (List ℕ)) (i : ℕ) → length paths ≤ i → drop i paths ≡ []
-none_left [] i all = drop_none i
-  where
-    drop_none : (n : ℕ) → ◌≡◌ {A = List (List ℕ)} (drop n []) []
-    drop_none zero = refl
-    drop_none (suc n) = refl
-none_left (p ∷ ps) zero all = absurd (omega (arith, all))
-none_left (p ∷ ps) (suc i) all = none_left ps i (omega (arith, all))
-
-pub all_joined : (kept : Option FileMap) (paths : List (List ℕ)) (i : ℕ) (joined : List KnownRecord) → length paths ≤ i
-    → ((rest : List KnownRecord) → AreJoined kept (drop i paths) rest → AreJoined kept paths (joined ++ rest)) → AreJoined kept paths joined
-all_joined kept paths i joined all joins = subst (AreJoined kept paths) (append-nil joined) (joins [] (subst (λ ps. AreJoined kept ps []) (sym (none_left paths i all)) refl))
-
-dropped : (paths : List (List ℕ)) (i : ℕ) (path : List ℕ) → i < length paths → path ≡ get_or paths i path → drop i paths ≡ path ∷ drop (i + 1) paths
-dropped paths i path few is = let next : suc i ≡ i + 1 = omega arith in drop-cons paths i path few ∙ (ap (λ p. p ∷ drop (suc i) paths) (sym is) ∙ ap (λ k. path ∷ drop k paths) next)
-
--- one file more
-pub joins_more : (kept kept' : Option FileMap) (paths : List (List ℕ)) (i : ℕ) (path : List ℕ) → i < length paths → path ≡ get_or paths i path → kept' ≡ kept → (joined known more : List KnownRecord) → AreRecordsAt kept' path known
-    → more ≡ joined ++ known → ((rest : List KnownRecord) → AreJoined kept (drop i paths) rest → AreJoined kept paths (joined ++ rest)) → (rest : List KnownRecord) → AreJoined kept (drop (i + 1) paths) rest
-    → AreJoined kept paths (more ++ rest)
-joins_more kept kept' paths i path few is same joined known more reads longer joins rest after =
-    let all : AreJoined kept (path ∷ drop (i + 1) paths) (known ++ rest) = (known, rest, subst (λ k. AreRecordsAt k path known) same reads, after, refl) in
-    let here : AreJoined kept (drop i paths) (known ++ rest) = subst (λ ps. AreJoined kept ps (known ++ rest)) (sym (dropped paths i path few is)) all in
-    subst (AreJoined kept paths) (sym (append_assoc joined known rest) ∙ ap (λ xs. xs ++ rest) (sym longer)) (joins (known ++ rest) here)

@@ -6,12 +6,12 @@ use Rattle.gv_base.specs.Counts.{Counts}
 use Rattle.gv_base.specs.FileMap.{FileMap}
 use Rattle.gv_words.specs.Command.{IsCommand, IsOneCommand, Meaning, command_of, meaning}
 use Rattle.gv_words.specs.declared.command.Command.{Command}
-use Rattle.gv_run.specs.declared.refusal.Refusal.{Refusal}
-use Rattle.gv_run.specs.declared.refusal.Refusal.TheVariants.{BadWords, NoMemory}
-use Rattle.gv_run.specs.Causes.{Causes, Why}
-use Rattle.gv_run.specs.Endings.{Told, SaysLine, SaysNothing, TellsRefusal, is_status, refusal_line, refusal_status, well_status}
-use Rattle.gv_run.specs.Performs.{BeginsNone, Done, Ending, IsDone, Lasts, Leaves, Performs, Refuses, Roots, Runs, Spares, Unbegun, causes_of, entered, root_of, roots}
-use Rattle.gv_run.specs.World.{Fed, World, world}
+use Rattle.gv_ending.specs.declared.refusal.Refusal.{Refusal}
+use Rattle.gv_ending.specs.declared.refusal.Refusal.TheVariants.{BadWords, NoMemory}
+use Rattle.gv_ending.specs.Causes.{Causes, Why}
+use Rattle.gv_ending.specs.Endings.{Ending, SaysLine, SaysNothing, TellsRefusal, Told, is_status, refusal_line, refusal_status, well_status}
+use Rattle.gv_run.specs.Performs.{BeginsNone, Done, IsDone, Leaves, Performs, Refuses, Runs, Spares, Unbegun, causes_of, root_of}
+use Rattle.gv_ending.specs.World.{Fed, Lasts, Roots, World, entered, roots, world}
 
 -- ---- a run
 

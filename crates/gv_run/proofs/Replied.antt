@@ -24,10 +24,10 @@ use Rattle.gv_report.specs.Line.{level_text}
 use Rattle.gv_session.specs.Session as session
 use Rattle.gv_session.specs.Session.{Agrees, ReportCause, State, seen_in}
 use Rattle.gv_session.specs.declared.fault.SessionFault.TheVariants.{Load, Judge}
-use Rattle.gv_run.specs.declared.refusal.Refusal.{Refusal}
-use Rattle.gv_run.specs.declared.refusal.Refusal.TheVariants.{NoMemory}
-use Rattle.gv_run.specs.Causes.{Why, of_output}
-use Rattle.gv_run.specs.Endings.{GainsFront}
+use Rattle.gv_ending.specs.declared.refusal.Refusal.{Refusal}
+use Rattle.gv_ending.specs.declared.refusal.Refusal.TheVariants.{NoMemory}
+use Rattle.gv_ending.specs.Causes.{Why, of_output}
+use Rattle.gv_ending.specs.Endings.{GainsFront}
 use Rattle.gv_run.specs.Naming.{has_line, name_text, pkg_text, profile_text}
 use Rattle.gv_run.specs.Session.{IsReport, due_in, report_text}
 use Rattle.gv_run.specs.Refusing.{HandsJudge, HandsLoad}

@@ -13,15 +13,15 @@ use Rattle.gv_checks.specs.Certs.{Cert}
 use Rattle.gv_words.specs.declared.command.Asked.{Asked}
 use Rattle.gv_words.specs.declared.command.Command.TheVariants as commands
 use Rattle.gv_run.specs.declared.answering.Answers.{Answers}
-use Rattle.gv_run.specs.declared.refusal.Refusal.{Refusal}
-use Rattle.gv_run.specs.Causes.{Why, of_store}
-use Rattle.gv_run.specs.Endings.{GainsFront, well_status}
-use Rattle.gv_run.specs.Fetching.{IsGiven}
-use Rattle.gv_run.specs.Performs.{Ending, Performs}
+use Rattle.gv_ending.specs.declared.refusal.Refusal.{Refusal}
+use Rattle.gv_ending.specs.Causes.{FailsAt, Why, of_store}
+use Rattle.gv_ending.specs.Endings.{Ending, GainsFront, well_status}
+use Rattle.gv_ending.specs.Fetching.{IsGiven}
+use Rattle.gv_run.specs.Performs.{Performs}
 use Rattle.gv_run.specs.Scan.{said_by}
 use Rattle.gv_run.specs.Scanning.{Answered, Keeps, Scanning, Scans, Stopped, StoppedBehind, Unfetched, UnkeptBy, WroteFront, scan_causes, scan_of, scanning_causes}
-use Rattle.gv_run.specs.ScanSteps.{FailsAt, HasAnswers, HasLeft, IsKept, IsUnkept, answer_causes, leave_causes, reading, writing}
-use Rattle.gv_run.specs.World.{Fed, World, world}
+use Rattle.gv_run.specs.ScanSteps.{HasAnswers, HasLeft, IsKept, IsUnkept, answer_causes, leave_causes, reading, writing}
+use Rattle.gv_ending.specs.World.{Fed, World, world}
 use Rattle.gv_run.proofs.Whys.{from_store, why_on}
 
 -- whether there is text, as a status

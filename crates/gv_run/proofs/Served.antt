@@ -19,10 +19,10 @@ use Rattle.gv_edits.specs.declared.script.ScriptFault.{ScriptFault}
 use Rattle.gv_edits.specs.declared.script.ScriptFault.TheVariants as faults
 use Rattle.gv_report.specs.declared.options.Options.{Options}
 use Rattle.gv_session.specs.Session.{Agrees, State, seen_in, with_edit}
-use Rattle.gv_run.specs.declared.refusal.Refusal.{Refusal}
-use Rattle.gv_run.specs.declared.refusal.Refusal.TheVariants.{InputFailed, BadCommand, Limit}
-use Rattle.gv_run.specs.Causes.{Why, of_input}
-use Rattle.gv_run.specs.Endings.{GainsFront}
+use Rattle.gv_ending.specs.declared.refusal.Refusal.{Refusal}
+use Rattle.gv_ending.specs.declared.refusal.Refusal.TheVariants.{InputFailed, BadCommand, Limit}
+use Rattle.gv_ending.specs.Causes.{Why, of_input}
+use Rattle.gv_ending.specs.Endings.{GainsFront}
 use Rattle.gv_run.specs.Scan.{IsUnloaded}
 use Rattle.gv_run.specs.Session.{IsReport, IsUnjudged, Writes, edits_of, report_text, work}
 use Rattle.gv_run.specs.SessionSteps.{Ahead, At, Begins, CalmTree, Cuts, DoCause, Does, Ends, Goes, Is, IsCut, IsTooMany, IsUngiven, IsUnread, Left, SameOutput, StepIs, Stops, ahead, answer_causes, at, behind, leaving, stop_causes, work_from, writing}

@@ -20,15 +20,15 @@ use Rattle.gv_words.specs.declared.command.Command.TheVariants as asked
 use Rattle.gv_words.specs.declared.command.Sitting.{Sitting}
 use Rattle.gv_checks.specs.Limits as query_faults
 use Rattle.gv_checks.specs.Queries.{queries}
-use Rattle.gv_run.specs.declared.refusal.Refusal.{Refusal}
-use Rattle.gv_run.specs.declared.refusal.Refusal.TheVariants.{TreeFailed, OutputFailed, Spent, NoMemory, NotARepository, Limit, InputFailed, BadCommand, Lacks}
-use Rattle.gv_run.specs.Causes.{Why}
-use Rattle.gv_run.specs.Endings.{Told, SaysNothing, TellsRefusal, refusal_status, well_status}
+use Rattle.gv_ending.specs.declared.refusal.Refusal.{Refusal}
+use Rattle.gv_ending.specs.declared.refusal.Refusal.TheVariants.{TreeFailed, OutputFailed, Spent, NoMemory, NotARepository, Limit, InputFailed, BadCommand, Lacks}
+use Rattle.gv_ending.specs.Causes.{Why}
+use Rattle.gv_ending.specs.Endings.{Ending, SaysNothing, TellsRefusal, Told, refusal_status, well_status}
 use Rattle.gv_run.specs.Naming.{TellsQuery}
-use Rattle.gv_run.specs.Performs.{Ending, Roots, Runs}
+use Rattle.gv_run.specs.Performs.{Runs}
 use Rattle.gv_run.specs.Scan.{Fits, IsPastOne, IsUnloaded, unloaded_status}
 use Rattle.gv_run.specs.Session.{Halts, IsAtReport, IsScript, IsUnjudged, SaysAt, SaysBehind, SessionSays, Writes, edits_of, ending_status, session_causes}
-use Rattle.gv_run.specs.World.{Calm, Fed, World}
+use Rattle.gv_ending.specs.World.{Calm, Fed, Roots, World}
 use Rattle.gv_run.proofs.Endings.{not_past, not_spent, one_not_spent, one_not_within}
 use Rattle.gv_run.proofs.Performed.{Ends, ends, five_only, or_five, or_unbegun}
 

@@ -13,14 +13,14 @@ use Rattle.gv_edits.specs.declared.edit.Edit.{Edit}
 use Rattle.gv_report.specs.declared.options.Options.{Options}
 use Rattle.gv_words.specs.declared.command.Command.TheVariants as asked
 use Rattle.gv_words.specs.declared.command.Sitting.{Sitting}
-use Rattle.gv_run.specs.declared.refusal.Refusal.{Refusal}
-use Rattle.gv_run.specs.declared.refusal.Refusal.TheVariants.{NoMemory, Limit, InputFailed, BadCommand}
+use Rattle.gv_ending.specs.declared.refusal.Refusal.{Refusal}
+use Rattle.gv_ending.specs.declared.refusal.Refusal.TheVariants.{NoMemory, Limit, InputFailed, BadCommand}
 use Rattle.gv_session.specs.declared.last.Last.{Last}
-use Rattle.gv_run.specs.Causes.{Why}
-use Rattle.gv_run.specs.Performs.{Lasts, Performs}
+use Rattle.gv_ending.specs.Causes.{Why}
+use Rattle.gv_run.specs.Performs.{Performs}
 use Rattle.gv_run.specs.Session.{BeginsScript, CutsReport, GivesNone, Halts, HasTaken, IsScript, session_causes}
 use Rattle.gv_run.specs.SessionSteps.{Ahead, At, Begins, CalmTree, Cuts, Ends, Is, IsUngiven, Left, Passes, Spells, SpellsToEnd, Stops, ahead, at, leaving, stop_causes}
-use Rattle.gv_run.specs.World.{Fed, SameTree, World, fed, world}
+use Rattle.gv_ending.specs.World.{Fed, Lasts, SameTree, World, fed, world}
 use Rattle.gv_run.proofs.Heads.{to_end, to_failure, to_limit}
 use Rattle.gv_run.proofs.Served.{gains_nothing}
 use Rattle.gv_run.proofs.Whys.{why_on}

@@ -19,13 +19,13 @@ use Rattle.gv_checks.specs.RepoReports.{scan_text}
 use Rattle.gv_checks.specs.declared.whole.Judged.{Judged}
 use Rattle.gv_words.specs.Command.{IsCommand, IsOneCommand}
 use Rattle.gv_words.specs.declared.command.Command.TheVariants as commands
-use Rattle.gv_run.specs.declared.refusal.Refusal.{Refusal}
-use Rattle.gv_run.specs.declared.refusal.Refusal.TheVariants.{OutputFailed, NoMemory, Limit}
-use Rattle.gv_run.specs.Causes.{Why, of_output}
-use Rattle.gv_run.specs.Endings.{GainsFront, Told, SaysNothing, TellsRefusal, well_status}
-use Rattle.gv_run.specs.Performs.{Ending, Performs, Roots, Runs}
+use Rattle.gv_ending.specs.declared.refusal.Refusal.{Refusal}
+use Rattle.gv_ending.specs.declared.refusal.Refusal.TheVariants.{OutputFailed, NoMemory, Limit}
+use Rattle.gv_ending.specs.Causes.{Why, of_output}
+use Rattle.gv_ending.specs.Endings.{Ending, GainsFront, SaysNothing, TellsRefusal, Told, well_status}
+use Rattle.gv_run.specs.Performs.{Performs, Runs}
 use Rattle.gv_run.specs.Summary.{CutsSummary, IsSummary, demo_causes, summary_text}
-use Rattle.gv_run.specs.World.{Fed, World, world}
+use Rattle.gv_ending.specs.World.{Fed, Roots, World, world}
 use Rattle.gv_run.proofs.AnswerLemmas.{PickedLaw, text_is}
 use Rattle.gv_run.proofs.Performed.{Ends, ends, five_only, or_five, or_unbegun}
 use Rattle.gv_run.proofs.Whys.{from_output}

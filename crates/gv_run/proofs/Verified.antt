@@ -9,18 +9,18 @@ use Rattle.gv_cert.specs.Known.{KnownRecord}
 use Rattle.gv_load.specs.declared.loading.Repo.{Repo}
 use Rattle.gv_words.specs.declared.command.Command.TheVariants as commands
 use Rattle.gv_words.specs.declared.command.Verification.{Verification}
-use Rattle.gv_run.specs.declared.refusal.Refusal.{Refusal}
-use Rattle.gv_run.specs.declared.refusal.Refusal.TheVariants.{NoMemory, Limit}
+use Rattle.gv_ending.specs.declared.refusal.Refusal.{Refusal}
+use Rattle.gv_ending.specs.declared.refusal.Refusal.TheVariants.{NoMemory, Limit}
 use Rattle.gv_run.specs.declared.verdict.Verdict.{Verdict}
-use Rattle.gv_run.specs.Causes.{Why, of_output, of_queries, of_reading, of_store}
-use Rattle.gv_run.specs.Endings.{GainsFront, well_status}
-use Rattle.gv_run.specs.Fetching.{AreRecordsAt, IsFileAt}
-use Rattle.gv_run.specs.Performs.{Lasts, Performs}
+use Rattle.gv_ending.specs.Causes.{FailsAt, Why, of_output, of_queries, of_reading, of_store}
+use Rattle.gv_ending.specs.Endings.{GainsFront, well_status}
+use Rattle.gv_ending.specs.Fetching.{AreRecordsAt, IsFileAt}
+use Rattle.gv_run.specs.Performs.{Performs}
 use Rattle.gv_run.specs.Scan.{IsLoaded}
-use Rattle.gv_run.specs.ScanSteps.{FailsAt, IsUnread}
+use Rattle.gv_run.specs.ScanSteps.{IsUnread}
 use Rattle.gv_run.specs.Verify.{AreFetched, CutsVerdict, HasVerdict, IsVerdict, TellsPast, is_refused, verdict_text, verify_causes}
 use Rattle.gv_run.specs.VerifySteps.{IsFound, IsUnheld, IsUntaken, find_causes, seeking}
-use Rattle.gv_run.specs.World.{Fed, World, world}
+use Rattle.gv_ending.specs.World.{Fed, Lasts, World, world}
 use Rattle.gv_run.proofs.Whys.{from_output, from_queries, from_store, why_on}
 
 -- ---- fetching

@@ -32,17 +32,17 @@ use Rattle.gv_verify.specs.Verifying as verified
 use Rattle.gv_verify.specs.Verifying.{MayAccept}
 use Rattle.gv_verify.specs.declared.verifying.VerifyFault.{VerifyFault}
 use Rattle.gv_verify.specs.declared.verifying.VerifyFault.TheVariants as faults
-use Rattle.gv_run.specs.declared.refusal.Refusal.{Refusal}
-use Rattle.gv_run.specs.declared.refusal.Refusal.TheVariants.{TreeFailed, StoreFailed, OutputFailed, Spent, NoMemory, NotARepository, Limit, Lacks}
+use Rattle.gv_ending.specs.declared.refusal.Refusal.{Refusal}
+use Rattle.gv_ending.specs.declared.refusal.Refusal.TheVariants.{TreeFailed, StoreFailed, OutputFailed, Spent, NoMemory, NotARepository, Limit, Lacks}
 use Rattle.gv_run.specs.declared.verdict.Verdict.{Verdict}
 use Rattle.gv_run.specs.declared.verdict.Verdict.TheVariants.{Accepted, NotBacked, OtherText}
-use Rattle.gv_run.specs.Causes.{Why}
-use Rattle.gv_run.specs.Endings.{Told, SaysNothing, TellsRefusal, well_status}
-use Rattle.gv_run.specs.Fetching.{AreRecordsAt, IsFileAt, file_at}
-use Rattle.gv_run.specs.Performs.{Ending, Roots, Runs, Spares, Unbegun}
+use Rattle.gv_ending.specs.Causes.{Why}
+use Rattle.gv_ending.specs.Endings.{Ending, SaysNothing, TellsRefusal, Told, well_status}
+use Rattle.gv_ending.specs.Fetching.{AreRecordsAt, IsFileAt, file_at}
+use Rattle.gv_run.specs.Performs.{Runs, Spares, Unbegun}
 use Rattle.gv_run.specs.Scan.{IsLoaded, IsUnloaded, unloaded_status}
 use Rattle.gv_run.specs.Verify.{IsLeftByScan, IsPastOneIn, IsVerdict, VerifySays, is_refused, verify_causes}
-use Rattle.gv_run.specs.World.{Fed, World}
+use Rattle.gv_ending.specs.World.{Fed, Roots, World}
 use Rattle.gv_run.proofs.Endings.{meets, one_of, within_not_past}
 use Rattle.gv_run.proofs.Performed.{Ends, ends, five_only, or_five, or_unbegun}
 

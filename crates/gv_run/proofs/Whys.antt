@@ -3,9 +3,9 @@ use Rattle.std.proofs.Common.{ℕ, List, inl, inr}
 use Rattle.std.specs.Prelude.{◌⊎◌}
 use Rattle.gv_reading.specs.declared.faults.LoadFault.{LoadFault}
 use Rattle.gv_reading.specs.declared.faults.LoadFault.TheVariants as loads
-use Rattle.gv_run.specs.declared.refusal.Refusal.{Refusal}
-use Rattle.gv_run.specs.declared.refusal.Refusal.TheVariants.{BadWords, TreeFailed, StoreFailed, OutputFailed, Spent, NoMemory, NotARepository, Limit, InputFailed, BadCommand, Lacks}
-use Rattle.gv_run.specs.Causes.{Causes, Why, of_input, of_output, of_queries, of_store}
+use Rattle.gv_ending.specs.declared.refusal.Refusal.{Refusal}
+use Rattle.gv_ending.specs.declared.refusal.Refusal.TheVariants.{BadWords, TreeFailed, StoreFailed, OutputFailed, Spent, NoMemory, NotARepository, Limit, InputFailed, BadCommand, Lacks}
+use Rattle.gv_ending.specs.Causes.{Causes, Why, of_input, of_output, of_queries, of_store}
 
 -- the cause of each object is a cause of the other's
 pub record Becomes (c d : Causes) : Type 0 where

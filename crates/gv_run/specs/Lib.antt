@@ -1,9 +1,5 @@
-pub mod Causes
-pub mod World
-pub mod Fetching
 pub mod Naming
 pub mod Silences
-pub mod Endings
 pub mod Refusing
 pub mod Scan
 pub mod Scanning

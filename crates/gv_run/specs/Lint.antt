@@ -19,10 +19,10 @@ use Rattle.gv_usedefaults.specs.Walk.{walking}
 use Rattle.gv_profcheck.specs.Redundant.{redundant}
 use Rattle.gv_profcheck.specs.Unknown.{unknown_reports}
 use Rattle.gv_words.specs.declared.command.Linting.{Linting}
-use Rattle.gv_run.specs.Causes.{Causes, no_path, no_refusal}
-use Rattle.gv_run.specs.Endings.{GainsFront}
+use Rattle.gv_ending.specs.Causes.{Causes, no_path, no_refusal}
+use Rattle.gv_ending.specs.Endings.{GainsFront}
 use Rattle.gv_run.specs.Scan.{IsLoaded, IsUnloaded, said_by, unloaded_status}
-use Rattle.gv_run.specs.World.{SameOut, SameTree, World}
+use Rattle.gv_ending.specs.World.{SameOut, SameTree, World}
 
 -- all reports of a lint: REQUIRED_USE that defaults don't meet, needless versions, and lines that name no package
 abbrev pub lint_reports : Repo → Walk → List Report

@@ -16,8 +16,8 @@ use Rattle.gv_merge.specs.Parts.{part_of}
 use Rattle.gv_checks.specs.declared.fault.JudgeFault.{JudgeFault}
 use Rattle.gv_checks.specs.declared.fault.JudgeFault.TheVariants as judges
 use Rattle.gv_checks.specs.declared.names.QueryName.{QueryName}
-use Rattle.gv_run.specs.declared.refusal.Refusal.{Refusal}
-use Rattle.gv_run.specs.declared.refusal.Refusal.TheVariants.{Spent, Limit, Lacks}
+use Rattle.gv_ending.specs.declared.refusal.Refusal.{Refusal}
+use Rattle.gv_ending.specs.declared.refusal.Refusal.TheVariants.{Spent, Limit, Lacks}
 
 abbrev pub has_line : ℕ → Profile → Bool
 has_line line p = p.line == line

@@ -9,12 +9,12 @@ use Rattle.gv_overlay.specs.declared.faults.OverlayFault.{OverlayFault}
 use Rattle.gv_overlay.specs.declared.faults.OverlayFault.TheVariants.{Limit, NoMemory, NotARepository, Tree}
 use Rattle.gv_overlay.specs.declared.overlay.Overlay.{Overlay}
 use Rattle.gv_words.specs.declared.command.OverlayScan.{OverlayScan}
-use Rattle.gv_run.specs.Causes.{Causes}
-use Rattle.gv_run.specs.Fetching.{IsGiven}
+use Rattle.gv_ending.specs.Causes.{Causes}
+use Rattle.gv_ending.specs.Fetching.{IsGiven}
 use Rattle.gv_run.specs.Naming.{TellsFirst}
 use Rattle.gv_run.specs.Scan.{SaysOf}
 use Rattle.gv_run.specs.Scanning.{Scanning, Scans, scanning_causes}
-use Rattle.gv_run.specs.World.{World}
+use Rattle.gv_ending.specs.World.{World}
 
 -- an overlay of this name is what was loaded, or loading is refused so, where the files are told
 abbrev pub IsOverlaid : Option FileMap → (name : List ℕ) → Overlay → Type 0

@@ -15,10 +15,10 @@ use Rattle.gv_checks.specs.Limits.{IsWithin}
 use Rattle.gv_checks.specs.Queries.{gates_of, queries}
 use Rattle.gv_checks.specs.RepoReports.{scan_text}
 use Rattle.gv_merge.specs.Parts.{part_queries}
-use Rattle.gv_run.specs.Fetching.{file_at}
+use Rattle.gv_ending.specs.Fetching.{file_at}
 use Rattle.gv_run.specs.Scan.{IsCovered, said_by, unloaded_status}
 use Rattle.gv_run.specs.Scanning.{Parts, certs_file}
-use Rattle.gv_run.specs.World.{World}
+use Rattle.gv_ending.specs.World.{World}
 
 -- Where no query of the part can be refused: each is within the limits and covered by the budget or a given record.
 pub record FitsPart (share : Share) (options : Options) (given : List KnownRecord) (repo : Repo) : Type 0 where

@@ -1,19 +1,19 @@
 -- What a run leaves: by cases on the command that is asked for.
-use Rattle.std.specs.Prelude.{◌≡◌, ◌⊎◌, ℕ, ◌≤◌, ◌<◌, List, Bool, true, Option, None, Some, Result, IfOk, IfErr}
+use Rattle.std.specs.Prelude.{◌≡◌, ◌⊎◌, ℕ, ◌≤◌, ◌<◌, List, true, Option, None, Some, IfOk, IfErr}
 use Rattle.gv_words.specs.Command.{IsCommand, command_of}
 use Rattle.gv_words.specs.declared.command.Command.{Command}
 use Rattle.gv_words.specs.declared.command.Command.TheVariants.{Scan, Overlay, Part, Merge, Verify, Session, Demo, Lint}
-use Rattle.gv_run.specs.declared.refusal.Refusal.{Refusal}
-use Rattle.gv_run.specs.declared.refusal.Refusal.TheVariants.{BadWords, NoMemory}
-use Rattle.gv_run.specs.Causes.{Causes, Why}
-use Rattle.gv_run.specs.Endings.{Told, SaysNothing, TellsRefusal, is_status, well_status}
+use Rattle.gv_ending.specs.declared.refusal.Refusal.{Refusal}
+use Rattle.gv_ending.specs.declared.refusal.Refusal.TheVariants.{BadWords, NoMemory}
+use Rattle.gv_ending.specs.Causes.{Causes, Why}
+use Rattle.gv_ending.specs.Endings.{Ending, Told, SaysNothing, TellsRefusal, is_status, well_status}
 use Rattle.gv_run.specs.Lint.{Lints, lint_causes}
 use Rattle.gv_run.specs.Overlaying.{OverlayReports, overlay_causes}
 use Rattle.gv_run.specs.Scanning.{Merges, Parts, Reports, merge_causes, part_causes, scan_causes}
 use Rattle.gv_run.specs.Session.{Serves, session_causes}
 use Rattle.gv_run.specs.Summary.{Summarises, demo_causes}
 use Rattle.gv_run.specs.Verify.{Verifies, verify_causes}
-use Rattle.gv_run.specs.World.{Fed, SameOut, SameSteps, SameStore, SameTree, Untouched, World}
+use Rattle.gv_ending.specs.World.{Fed, Lasts, Roots, SameOut, SameSteps, SameStore, SameTree, Untouched, World, entered}
 
 -- ---- by the command
 
@@ -63,16 +63,6 @@ Spares (Lint linting) old new = SameStore old new × SameSteps old new
 
 -- ---- a command, from its values to what it writes
 
-abbrev pub Ending : Type 0
-Ending = Result Bool Refusal
-
--- the files are never changed, and no count of faults falls
-pub record Lasts (old new : World) : Type 0 where
-  pub files : new.files ≡ old.files
-  pub tree : old.tree_faults ≤ new.tree_faults
-  pub store : old.store_faults ≤ new.store_faults
-  pub out : old.out_faults ≤ new.out_faults
-
 -- how a command ends, and what it leaves
 pub record Performs (command : Command) (old new : World) (input : Fed) (ending : Ending) : Type 0 where
   pub done : IfOk ending (λ some. Done command old new input (well_status some))
@@ -81,19 +71,6 @@ pub record Performs (command : Command) (old new : World) (input : Fed) (ending 
   pub lasts : Lasts old new
 
 -- ---- a run, from the words
-
--- the root that the tree was entered at before, and is
-pub record Roots : Type 0 where
-  pub old : Option (List ℕ)
-  pub new : Option (List ℕ)
-
-abbrev pub roots : (old new : Option (List ℕ)) → Roots
-roots old new = record { old = old; new = new }
-
--- a command's folder, and where it has none the one before
-abbrev pub entered : (of : Option (List ℕ)) → (before : Option (List ℕ)) → Option (List ℕ)
-entered None before = before
-entered (Some root) before = Some root
 
 -- the words are this command, the tree was entered at its folder, and it touched nothing of what it doesn't touch
 pub record Begins (words : List (List ℕ)) (entry : Roots) (old new : World) (command : Command) : Type 0 where

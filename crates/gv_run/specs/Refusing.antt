@@ -9,8 +9,8 @@ use Rattle.gv_checks.specs.declared.fault.JudgeFault.{JudgeFault}
 use Rattle.gv_checks.specs.declared.fault.JudgeFault.TheVariants as judges
 use Rattle.gv_merge.specs.declared.merging.MergeFault.{MergeFault}
 use Rattle.gv_merge.specs.declared.merging.MergeFault.TheVariants as merges
-use Rattle.gv_run.specs.declared.refusal.Refusal.{Refusal}
-use Rattle.gv_run.specs.declared.refusal.Refusal.TheVariants.{TreeFailed, Spent, NoMemory, NotARepository, Limit, Lacks}
+use Rattle.gv_ending.specs.declared.refusal.Refusal.{Refusal}
+use Rattle.gv_ending.specs.declared.refusal.Refusal.TheVariants.{TreeFailed, Spent, NoMemory, NotARepository, Limit, Lacks}
 use Rattle.gv_run.specs.Naming.{name_text}
 
 -- a fault of loading, or of judging a repository, as a refusal

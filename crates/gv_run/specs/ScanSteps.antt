@@ -1,11 +1,10 @@
 -- How the steps of a scan end: no public contract rests on these words.
-use Rattle.std.specs.Prelude.{◌≡◌, ℕ, List, Bool, true, not, Option, ◌⊎◌}
+use Rattle.std.specs.Prelude.{◌≡◌, ℕ, List, Bool, not, Option, ◌⊎◌}
 use Rattle.std.specs.FinMap as map
 use Rattle.std.specs.Option.{option_map}
 use Rattle.gv_base.specs.Causes.{Rose}
 use Rattle.gv_base.specs.Counts.{Counts}
 use Rattle.gv_base.specs.FileMap.{FileMap}
-use Rattle.gv_base.specs.Order.{has_text}
 use Rattle.gv_base.specs.Outside.{gains}
 use Rattle.gv_base.specs.Words.{is_empty}
 use Rattle.gv_cert.specs.Known.{KnownRecord}
@@ -14,22 +13,14 @@ use Rattle.gv_reading.specs.declared.faults.LoadFault.{LoadFault}
 use Rattle.gv_checks.specs.Certs.{Cert}
 use Rattle.gv_checks.specs.Queries.{Query}
 use Rattle.gv_run.specs.declared.answering.Answers.{Answers}
-use Rattle.gv_run.specs.declared.refusal.Refusal.{Refusal}
-use Rattle.gv_run.specs.Causes.{Causes, no_fault, no_refusal, of_judging}
-use Rattle.gv_run.specs.Endings.{GainsFront}
+use Rattle.gv_ending.specs.declared.refusal.Refusal.{Refusal}
+use Rattle.gv_ending.specs.Causes.{Causes, FailsAt, no_fault, no_refusal, of_judging}
+use Rattle.gv_ending.specs.Endings.{GainsFront}
 use Rattle.gv_run.specs.Naming.{TellsFirst}
 use Rattle.gv_run.specs.Scan.{IsUnloaded}
 use Rattle.gv_run.specs.Scanning.{AreAnswered, IsUnasked, Scanning, certs_file}
 
--- ---- fetching and reading
-
--- the store failed at this path
-abbrev pub FailsAt : (file : List ℕ) → (before now : ℕ) → (path : List ℕ) → Type 0
-FailsAt file before now path = (path ≡ file) × Rose before now
-
--- it failed at one of these
-abbrev pub FailsAtOne : (files : List (List ℕ)) → (before now : ℕ) → (path : List ℕ) → Type 0
-FailsAtOne files before now path = (has_text files path ≡ true) × Rose before now
+-- ---- reading
 
 -- loading was refused so, and the tree didn't fail
 abbrev pub IsUnreadBy : (Unloads : LoadFault → Type 0) → (before now : ℕ) → LoadFault → Type 0

@@ -21,15 +21,15 @@ use Rattle.gv_checks.specs.Limits.{IsWithin}
 use Rattle.gv_checks.specs.Queries.{Query, gates_of, queries}
 use Rattle.gv_checks.specs.RepoReports.{scan_text}
 use Rattle.gv_logic.specs.Circuits.{Circuit, IsCircuit}
-use Rattle.gv_run.specs.declared.refusal.Refusal.{Refusal}
-use Rattle.gv_run.specs.Causes.{Causes, no_refusal}
-use Rattle.gv_run.specs.Endings.{GainsFront}
+use Rattle.gv_ending.specs.declared.refusal.Refusal.{Refusal}
+use Rattle.gv_ending.specs.Causes.{Causes, no_refusal}
+use Rattle.gv_ending.specs.Endings.{GainsFront}
 use Rattle.gv_merge.specs.Parts.{part_queries}
-use Rattle.gv_run.specs.Fetching.{AreJoined, IsGiven}
+use Rattle.gv_ending.specs.Fetching.{AreJoined, IsGiven}
 use Rattle.gv_run.specs.Naming.{TellsFirst, TellsLacking}
 use Rattle.gv_run.specs.Scan.{IsLoaded, IsUnloaded, said_by}
 use Rattle.gv_run.specs.Silences.{IsRefutedIfSilent}
-use Rattle.gv_run.specs.World.{SameOut, SameSteps, SameTree, Untouched, World}
+use Rattle.gv_ending.specs.World.{SameOut, SameSteps, SameTree, Untouched, World}
 
 -- What is scanned: where its certificates are kept; whether records are taken from files before, from which, and which records are given by
 -- what the store holds; how many sets a query may keep; what is loaded, or why it isn't; and of what was loaded the queries that are

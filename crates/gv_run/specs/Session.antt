@@ -20,14 +20,14 @@ use Rattle.gv_checks.specs.Limits.{IsWithin, Refuses}
 use Rattle.gv_checks.specs.Queries.{queries}
 use Rattle.gv_checks.specs.RepoReports.{scan_text}
 use Rattle.gv_session.specs.Due.{due}
-use Rattle.gv_run.specs.declared.refusal.Refusal.{Refusal}
-use Rattle.gv_run.specs.declared.refusal.Refusal.TheVariants.{InputFailed, BadCommand, Limit}
+use Rattle.gv_ending.specs.declared.refusal.Refusal.{Refusal}
+use Rattle.gv_ending.specs.declared.refusal.Refusal.TheVariants.{InputFailed, BadCommand, Limit}
 use Rattle.gv_words.specs.declared.command.Sitting.{Sitting}
-use Rattle.gv_run.specs.Causes.{Causes, no_path}
-use Rattle.gv_run.specs.Endings.{GainsFront}
+use Rattle.gv_ending.specs.Causes.{Causes, no_path}
+use Rattle.gv_ending.specs.Endings.{GainsFront}
 use Rattle.gv_run.specs.Naming.{TellsQuery}
 use Rattle.gv_run.specs.Scan.{Fits, IsLoaded, IsPastOne, IsUnloaded, unloaded_status}
-use Rattle.gv_run.specs.World.{Calm, CalmInput, Fed, SameTree, World}
+use Rattle.gv_ending.specs.World.{Calm, CalmInput, Fed, SameTree, World}
 
 -- ---- what is written
 

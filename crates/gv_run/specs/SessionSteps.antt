@@ -16,10 +16,10 @@ use Rattle.gv_edits.specs.declared.edit.Edit.TheVariants as edits
 use Rattle.gv_load.specs.Loading.{loading}
 use Rattle.gv_reading.specs.Look.{look_of}
 use Rattle.gv_session.specs.Session.{Agrees, State, seen_in, with_edit}
-use Rattle.gv_run.specs.declared.refusal.Refusal.{Refusal}
-use Rattle.gv_run.specs.declared.refusal.Refusal.TheVariants.{InputFailed, BadCommand, Limit, NoMemory}
-use Rattle.gv_run.specs.Endings.{GainsFront}
-use Rattle.gv_run.specs.Causes.{Causes, Why, no_path, no_refusal, of_judging}
+use Rattle.gv_ending.specs.declared.refusal.Refusal.{Refusal}
+use Rattle.gv_ending.specs.declared.refusal.Refusal.TheVariants.{InputFailed, BadCommand, Limit, NoMemory}
+use Rattle.gv_ending.specs.Endings.{GainsFront}
+use Rattle.gv_ending.specs.Causes.{Causes, Why, no_path, no_refusal, of_judging}
 use Rattle.gv_run.specs.Scan.{IsUnloaded}
 use Rattle.gv_run.specs.Session.{IsReport, IsUnjudged, Writes, due_in, edits_of, report_text, work}
 

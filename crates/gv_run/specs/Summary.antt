@@ -11,9 +11,9 @@ use Rattle.gv_report.specs.declared.options.Options.{Options}
 use Rattle.gv_words.specs.Command.{settings, settings_of}
 use Rattle.gv_checks.specs.Queries.{queries}
 use Rattle.gv_checks.specs.RepoReports.{scan_text}
-use Rattle.gv_run.specs.Causes.{Causes, no_fault, no_path, no_refusal}
-use Rattle.gv_run.specs.Endings.{GainsFront}
-use Rattle.gv_run.specs.World.{SameOut, World}
+use Rattle.gv_ending.specs.Causes.{Causes, no_fault, no_path, no_refusal}
+use Rattle.gv_ending.specs.Endings.{GainsFront}
+use Rattle.gv_ending.specs.World.{SameOut, World}
 
 -- how many lines a text has, each of which ends with a line feed
 abbrev pub line_count : List ℕ → ℕ

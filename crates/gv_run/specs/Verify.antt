@@ -18,16 +18,16 @@ use Rattle.gv_checks.specs.declared.recalled.RecallFault.TheVariants as recallin
 use Rattle.gv_verify.specs.Verifying.{IsAccepted, IsOtherText}
 use Rattle.gv_words.specs.declared.command.Asked.{Asked}
 use Rattle.gv_words.specs.declared.command.Verification.{Verification}
-use Rattle.gv_run.specs.declared.refusal.Refusal.{Refusal}
-use Rattle.gv_run.specs.declared.refusal.Refusal.TheVariants.{Limit}
+use Rattle.gv_ending.specs.declared.refusal.Refusal.{Refusal}
+use Rattle.gv_ending.specs.declared.refusal.Refusal.TheVariants.{Limit}
 use Rattle.gv_run.specs.declared.verdict.Verdict.{Verdict}
 use Rattle.gv_run.specs.declared.verdict.Verdict.TheVariants.{Accepted, NotBacked, OtherText}
-use Rattle.gv_run.specs.Causes.{Causes, no_refusal}
-use Rattle.gv_run.specs.Endings.{GainsFront, well_status}
-use Rattle.gv_run.specs.Fetching.{AreRecordsAt, IsFileAt, file_at}
+use Rattle.gv_ending.specs.Causes.{Causes, no_refusal}
+use Rattle.gv_ending.specs.Endings.{GainsFront, well_status}
+use Rattle.gv_ending.specs.Fetching.{AreRecordsAt, IsFileAt, file_at}
 use Rattle.gv_run.specs.Scan.{IsLoaded, IsUnloaded, unloaded_status}
 use Rattle.gv_run.specs.Scanning.{Reports, certs_file}
-use Rattle.gv_run.specs.World.{CalmStore, SameOut, SameSteps, SameTree, World}
+use Rattle.gv_ending.specs.World.{CalmStore, SameOut, SameSteps, SameTree, World}
 
 -- ---- what is said
 

@@ -10,10 +10,10 @@ use Rattle.gv_checks.specs.Queries.{queries}
 use Rattle.gv_checks.specs.Recalled.{IsNotRecalled}
 use Rattle.gv_checks.specs.declared.recalled.RecallFault.TheVariants as recalling
 use Rattle.gv_words.specs.declared.command.Verification.{Verification}
-use Rattle.gv_run.specs.declared.refusal.Refusal.{Refusal}
-use Rattle.gv_run.specs.declared.refusal.Refusal.TheVariants.{Limit}
+use Rattle.gv_ending.specs.declared.refusal.Refusal.{Refusal}
+use Rattle.gv_ending.specs.declared.refusal.Refusal.TheVariants.{Limit}
 use Rattle.gv_run.specs.declared.verdict.Verdict.{Verdict}
-use Rattle.gv_run.specs.Causes.{Causes, no_refusal}
+use Rattle.gv_ending.specs.Causes.{Causes, no_refusal}
 use Rattle.gv_run.specs.Scan.{IsLoaded, IsUnloaded}
 use Rattle.gv_run.specs.Verify.{AreFetched, IsVerdict, TellsPast}
 

@@ -8,16 +8,16 @@ ghost use Rattle.gv_checks.specs.Answered.{IsJudged};
 ghost use Rattle.gv_checks.specs.Queries.{queries};
 ghost use Rattle.gv_checks.specs.RepoReports.{scan_text};
 ghost use Rattle.gv_load.specs.OwnLines.{HaveOwnLines};
-ghost use Rattle.gv_run.specs.Causes.{Why, of_queries, of_reading};
+ghost use Rattle.gv_ending.specs.Causes.{Why, of_queries, of_reading};
 ghost use Rattle.gv_run.specs.Scan.{IsLoaded};
 ghost use Rattle.gv_run.specs.ScanSteps.{AreAnswersOf, HasAnswers, IsUnanswered, IsUnread, answer_causes, reading};
 ghost use Rattle.gv_run.specs.Scanning.{scan_of};
 
-use crate::Refusal;
 use crate::refusing::{judge_refusal, load_refusal};
 use gv_base::{Ledger, NoMemory, Steps, Text, Tree};
 use gv_cert::{Known, write_known};
 use gv_checks::{Judged, gates_law, judge, names_law, records_law};
+use gv_ending::Refusal;
 use gv_load::{Repo, load};
 use gv_report::{Emitter, Options, Report, Reports, selected, selected_law};
 use gv_words::Asked;

@@ -2,25 +2,20 @@
 #![tactic(auto)]
 
 mod answering;
-mod fetching;
 mod linting;
 mod merging;
 mod naming;
-mod output;
 mod overlaying;
 mod parting;
-mod refusal;
 mod refusing;
 mod replying;
 mod running;
 mod scanning;
 mod serving;
 mod summing;
-mod telling;
 mod verdict;
 mod verifying;
 
 pub use gv_demo::demo_files;
 pub use gv_words::read_words;
-pub use refusal::Refusal;
 pub use running::run;

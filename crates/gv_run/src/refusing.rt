@@ -2,9 +2,9 @@
 ghost use Rattle.std.specs.Prelude.{◌≡◌};
 ghost use Rattle.gv_run.specs.Refusing.{HandsJudge, HandsLoad, HandsOverlay};
 
-use crate::Refusal;
 use crate::naming::name_text;
 use gv_checks::JudgeFault;
+use gv_ending::Refusal;
 use gv_load::{LoadFault, Repo};
 use gv_overlay::OverlayFault;
 use std::alloc::Global;

@@ -5,13 +5,12 @@ ghost use Rattle.std.specs.Prelude.{◌≡◌, ◌≤◌, ◌++◌, IfOk, IfErr,
 ghost use Rattle.gv_edits.specs.Edits.{edited_told};
 ghost use Rattle.gv_session.specs.Session.{Agrees};
 ghost use Rattle.gv_run.specs.Session.{IsReport, report_text};
-ghost use Rattle.gv_run.specs.Causes.{Why};
+ghost use Rattle.gv_ending.specs.Causes.{Why};
 ghost use Rattle.gv_run.specs.SessionSteps.{IsAnswered, Sees, answer_causes, make_causes, writing};
 
-use crate::Refusal;
 use crate::refusing::{judge_refusal, load_refusal};
-use crate::scanning::write;
 use gv_base::{Ledger, NoMemory, Sink, Steps, Text, Tree};
+use gv_ending::{Refusal, write};
 use gv_session::{Session, SessionFault};
 use std::alloc::Global;
 

@@ -12,15 +12,15 @@ ghost use Rattle.gv_edits.specs.Script.{Leads, led_script, script_left};
 ghost use Rattle.gv_edits.specs.declared.edit.Edit.TheVariants as edits;
 ghost use Rattle.gv_session.specs.Session.{Agrees, with_edit};
 ghost use Rattle.gv_words.specs.declared.command.Command.TheVariants as commands;
-ghost use Rattle.gv_run.specs.Causes.{Why, of_input};
+ghost use Rattle.gv_ending.specs.Causes.{Why, of_input};
 ghost use Rattle.gv_run.specs.Performs.{Performs};
 ghost use Rattle.gv_run.specs.SessionSteps.{DoCause, Does, Ends, IsTooMany, IsUnread, StepIs, ahead, at, leaving, stop_causes, writing};
-ghost use Rattle.gv_run.specs.World.{fed, world};
+ghost use Rattle.gv_ending.specs.World.{fed, world};
 
-use crate::Refusal;
 use crate::replying::answer_report;
 use gv_base::{Ledger, Sink, Source, Steps, Text, Tree};
 use gv_edits::{Command, EditFault, MAX_COMMANDS, ScriptFault, ScriptReader};
+use gv_ending::Refusal;
 use gv_session::Session;
 use gv_words::Sitting;
 use std::alloc::Global;

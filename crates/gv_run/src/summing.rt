@@ -11,15 +11,14 @@ ghost use Rattle.gv_checks.specs.RepoReports.{scan_text};
 ghost use Rattle.gv_words.specs.declared.command.Command.TheVariants as commands;
 ghost use Rattle.gv_run.specs.Performs.{Performs};
 ghost use Rattle.gv_run.specs.Summary.{IsSummary, line_count, summary_text};
-ghost use Rattle.gv_run.specs.World.{Fed, world};
+ghost use Rattle.gv_ending.specs.World.{Fed, world};
 
-use crate::Refusal;
 use crate::answering::text_of;
-use crate::scanning::write;
 use gv_base::{Calls, Ledger, MemTree, NoMemory, Sink, Steps, Text};
 use gv_cert::Known;
 use gv_checks::judge;
 use gv_demo::demo_files;
+use gv_ending::{Refusal, write};
 use gv_load::{Repo, load};
 use gv_report::{Options, selected_law};
 use gv_words::default_options;

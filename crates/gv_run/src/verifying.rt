@@ -4,19 +4,17 @@
 //! Costs what `load` and gv_verify's `verify` cost, and O(the bytes of both files).
 ghost use Rattle.std.specs.Prelude.{◌≡◌, ◌≤◌, IfOk, IfErr, OnOk};
 ghost use Rattle.gv_words.specs.declared.command.Command.TheVariants as commands;
-ghost use Rattle.gv_run.specs.Causes.{Why, of_queries, of_store};
+ghost use Rattle.gv_ending.specs.Causes.{Why, of_queries, of_store};
 ghost use Rattle.gv_run.specs.Performs.{Performs};
 ghost use Rattle.gv_run.specs.Verify.{AreFetched, IsVerdict};
 ghost use Rattle.gv_run.specs.VerifySteps.{IsFound, IsUnheld, IsUntaken, find_causes, seeking};
-ghost use Rattle.gv_run.specs.World.{Fed, world};
+ghost use Rattle.gv_ending.specs.World.{Fed, world};
 
-use crate::Refusal;
 use crate::answering::read;
-use crate::fetching::{fetch, fetch_known};
-use crate::scanning::write;
 use crate::verdict::{Verdict, is_refused, verdict_text};
 use gv_base::{Ledger, Sink, Steps, Store, Text, Tree};
 use gv_cert::Known;
+use gv_ending::{Refusal, fetch, fetch_known, write};
 use gv_load::Repo;
 use gv_report::Options;
 use gv_verify::{VerifyFault, verify};

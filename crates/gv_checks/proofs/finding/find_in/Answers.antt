@@ -1,4 +1,4 @@
-use Rattle.gv_checks.specs.Context.{listed}
+use Rattle.gv_plain.specs.Context.{listed}
 use Rattle.gv_checks.proofs.NamedLemmas.{never_past, passed}
 use Rattle.gv_checks.proofs.finding.find_in.Goals as goal
 

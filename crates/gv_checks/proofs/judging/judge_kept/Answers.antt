@@ -1,4 +1,4 @@
-use Rattle.gv_checks.specs.Context.{case_of}
+use Rattle.gv_plain.specs.Context.{case_of}
 use Rattle.gv_checks.specs.Queries.{query_of}
 use Rattle.gv_checks.proofs.JudgeLemmas.{found_least}
 use Rattle.gv_checks.proofs.judging.judge_kept.Goals as goal

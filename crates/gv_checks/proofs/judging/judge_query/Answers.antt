@@ -1,5 +1,5 @@
 use Rattle.std.proofs.Common.{refl, sym, subst, ◌++◌, ◌∷◌}
-use Rattle.gv_checks.specs.Context.{case_of}
+use Rattle.gv_plain.specs.Context.{case_of}
 use Rattle.gv_checks.specs.Queries.{gates_of, query_of}
 use Rattle.gv_checks.specs.Progress.{Stops}
 use Rattle.gv_checks.specs.Shared.{IsLoweredAs}

@@ -1,6 +1,6 @@
 use Rattle.std.proofs.Common.{rules}
 use Rattle.gv_checks.proofs.KeyLemmas.{required_one, required_some}
-use Rattle.gv_checks.proofs.SharedLemmas.{on_ok}
+use Rattle.gv_plain.specs.Lists.{on_ok}
 use Rattle.gv_checks.proofs.keys.make_required_key.Goals as goal
 
 pub add_required_key-requires : goal.add_required_key-requires

@@ -1,4 +1,4 @@
-use Rattle.gv_checks.specs.Context.{case_of}
+use Rattle.gv_plain.specs.Context.{case_of}
 use Rattle.gv_checks.specs.Queries.{query_of}
 use Rattle.gv_checks.proofs.KnownLemmas.{knows_named}
 use Rattle.gv_checks.proofs.known.known_one.Goals as goal

@@ -1,4 +1,4 @@
-use Rattle.gv_checks.specs.Context.{case_of}
+use Rattle.gv_plain.specs.Context.{case_of}
 use Rattle.gv_checks.specs.Queries.{query_of}
 use Rattle.gv_checks.proofs.OneLemmas.{counts_refused}
 use Rattle.gv_checks.proofs.one.answer_at.Goals as goal

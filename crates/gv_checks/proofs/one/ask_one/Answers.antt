@@ -1,4 +1,4 @@
-use Rattle.gv_checks.specs.Context.{case_of}
+use Rattle.gv_plain.specs.Context.{case_of}
 use Rattle.gv_checks.specs.Queries.{query_of}
 use Rattle.gv_checks.proofs.NamedLemmas.{answers_named}
 use Rattle.gv_checks.proofs.one.ask_one.Goals as goal

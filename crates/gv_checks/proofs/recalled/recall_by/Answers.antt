@@ -10,7 +10,7 @@ returns-in-Err-clause-recalls g c =
 
 pub returns-clause-recalls : goal.returns-clause-recalls
 returns-clause-recalls g c =
-    recalled_over c.in_ok-walk.walk c.args.options.now c.args.repo.now c.in_ok-walk.ensures 0 c.args.certs.now c.args.steps.now c.judge.new.steps c.in-Ok.answers c.in-Ok.answers.plain c.in-Ok.ensures.plain c.in-Ok.ensures.answers
+    recalled_over c.told_law.ensures c.in_ok-walk.walk c.args.options.now c.args.repo.now c.in_ok-walk.ensures 0 c.args.certs.now c.args.steps.now c.judge.new.steps c.in-Ok.answers c.in-Ok.answers.plain c.in-Ok.ensures.plain c.in-Ok.ensures.answers
     refl _ c.in_ok-reports.ensures refl refl
 
 pub returns-in-Err-clause-few : goal.returns-in-Err-clause-few

@@ -1,6 +1,6 @@
 use Rattle.std.proofs.Common.{◌≡◌, ◌∙◌}
 use Rattle.std.proofs.lemmas.Result.{IfOk-weaker}
-use Rattle.gv_checks.specs.Context.{case_of}
+use Rattle.gv_plain.specs.Context.{case_of}
 use Rattle.gv_checks.specs.Queries.{query_of}
 use Rattle.gv_checks.specs.RepoReports.{failing_text}
 use Rattle.gv_checks.proofs.ReportLemmas.{failing_is}

@@ -1,5 +1,5 @@
 use Rattle.std.proofs.Common.{ap, refl, sym, ◌∙◌}
-use Rattle.gv_checks.specs.Context.{case_of}
+use Rattle.gv_plain.specs.Context.{case_of}
 use Rattle.gv_checks.specs.Queries.{is_asked}
 use Rattle.gv_checks.proofs.GoLemmas.{goes_chosen, goes_unasked, goes_unchosen}
 use Rattle.gv_checks.proofs.walking.judge_class.Goals as goal

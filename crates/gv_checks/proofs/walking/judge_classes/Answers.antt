@@ -1,5 +1,5 @@
 use Rattle.std.proofs.Common.{◌+◌, drop, rules, subst, sym, ◌∙◌}
-use Rattle.gv_checks.specs.Context.{case_of}
+use Rattle.gv_plain.specs.Context.{case_of}
 use Rattle.gv_checks.specs.Keys.{ArePartsOf}
 use Rattle.gv_checks.specs.Queries.{class_queries}
 use Rattle.gv_checks.proofs.GoLemmas.{go_end, go_err, go_next}

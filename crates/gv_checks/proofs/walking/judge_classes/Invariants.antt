@@ -1,5 +1,5 @@
 use Rattle.std.proofs.Common.{◌≡◌, drop}
-use Rattle.gv_checks.specs.Context.{case_of}
+use Rattle.gv_plain.specs.Context.{case_of}
 use Rattle.gv_checks.specs.Queries.{class_queries}
 use Rattle.gv_checks.specs.Shared.{AreReady}
 use Rattle.gv_checks.specs.Walks.{IsOnWay}

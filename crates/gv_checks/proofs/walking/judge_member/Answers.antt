@@ -1,5 +1,5 @@
 use Rattle.std.proofs.Common.{sym, ◌∙◌}
-use Rattle.gv_checks.specs.Context.{listed}
+use Rattle.gv_plain.specs.Context.{listed}
 use Rattle.gv_checks.proofs.GoLemmas.{goes_passed}
 use Rattle.gv_checks.proofs.walking.judge_member.Goals as goal
 

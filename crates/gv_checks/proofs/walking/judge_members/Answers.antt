@@ -1,11 +1,12 @@
 use Rattle.std.proofs.Common.{ℕ, ◌+◌, drop, subst}
 use Rattle.std.specs.Prelude.{flat_map, Ok, Err}
-use Rattle.gv_checks.specs.Cases.{cases_of, members_from}
+use Rattle.gv_plain.specs.Cases.{cases_of, members_from}
+use Rattle.gv_plain.specs.Shown.{numbered_at}
 use Rattle.gv_checks.specs.Chosen.{told_of}
 use Rattle.gv_checks.specs.Queries.{case_queries}
 use Rattle.gv_checks.specs.Walks.{Goes}
 use Rattle.gv_checks.proofs.GoLemmas.{go_end, go_err, go_next, go_short}
-use Rattle.gv_checks.proofs.WalkLemmas.{bodies_left, member_here, members_left, numbered_at, told_bodies_end, told_end, told_next}
+use Rattle.gv_checks.proofs.WalkLemmas.{bodies_left, member_here, members_left, told_bodies_end, told_end, told_next}
 use Rattle.gv_checks.proofs.walking.judge_members.Goals as goal
 
 pub returns-then-i-bodies-clause-goes : goal.returns-then-i-bodies-clause-goes
@@ -20,7 +21,7 @@ returns-in_default-clause-goes g c =
 
 pub judge_member-requires-clause-numbered : goal.judge_member-requires-clause-numbered
 judge_member-requires-clause-numbered g c =
-    numbered_at c.args.errand.now.walk.now.repo c.index-pkgs-i.result c.index-bodies-i.result c.in-Ok.number c.loop-i.i c.in-Ok.ensures.1 c.args.pkgs.now c.requires.pkgs c.loop-i-test.true c.index-pkgs-i.is
+    numbered_at c.args.errand.now.walk.now.repo c.index-pkgs-i.result c.in-Ok.number c.loop-i.i c.in-Ok.ensures.1 c.args.pkgs.now c.requires.pkgs c.loop-i-test.true c.index-pkgs-i.is
 
 pub returns-in-Err-clause-goes : goal.returns-in-Err-clause-goes
 returns-in-Err-clause-goes g c =

@@ -1,6 +1,6 @@
 use Rattle.std.proofs.Common.{◌≡◌, ◌++◌, drop}
 use Rattle.std.specs.Prelude.{flat_map}
-use Rattle.gv_checks.specs.Cases.{cases_of, members_from}
+use Rattle.gv_plain.specs.Cases.{cases_of, members_from}
 use Rattle.gv_checks.specs.Chosen.{told_of}
 use Rattle.gv_checks.specs.Queries.{case_queries}
 use Rattle.gv_checks.specs.Walks.{IsOnWay}

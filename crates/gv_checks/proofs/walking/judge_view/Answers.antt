@@ -1,6 +1,6 @@
 use Rattle.std.proofs.Common.{ap, refl, sym, ◌∙◌}
 use Rattle.std.specs.Prelude.{slice_get}
-use Rattle.gv_checks.specs.Context.{listed}
+use Rattle.gv_plain.specs.Context.{listed}
 use Rattle.gv_checks.proofs.GoLemmas.{goes_judged, goes_unjudged}
 use Rattle.gv_checks.proofs.walking.judge_view.Goals as goal
 

@@ -1,11 +1,11 @@
 use Rattle.std.proofs.Common.{◌+◌, drop, refl}
 use Rattle.std.specs.Prelude.{flat_map, filter_map}
-use Rattle.gv_checks.specs.Cases.{case_in}
-use Rattle.gv_checks.specs.Context.{listed}
+use Rattle.gv_plain.specs.Cases.{case_in}
+use Rattle.gv_plain.specs.Context.{listed}
 use Rattle.gv_checks.specs.Queries.{case_asks, case_queries}
 use Rattle.gv_checks.proofs.GoLemmas.{go_end, go_err, go_next}
-use Rattle.gv_checks.proofs.ViewLemmas.{as_seen, one_of}
-use Rattle.gv_checks.proofs.WalkLemmas.{all_seen, profiles_here, profiles_left, seen_at}
+use Rattle.gv_plain.specs.Shown.{all_seen, as_seen, seen_at}
+use Rattle.gv_checks.proofs.WalkLemmas.{one_of, profiles_here, profiles_left}
 use Rattle.gv_checks.proofs.walking.judge_views.Goals as goal
 
 pub judge_view-requires-clause-view : goal.judge_view-requires-clause-view

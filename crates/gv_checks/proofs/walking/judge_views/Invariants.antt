@@ -1,7 +1,7 @@
 use Rattle.std.proofs.Common.{drop}
 use Rattle.std.specs.Prelude.{flat_map, filter_map}
-use Rattle.gv_checks.specs.Cases.{case_in}
-use Rattle.gv_checks.specs.Context.{listed}
+use Rattle.gv_plain.specs.Cases.{case_in}
+use Rattle.gv_plain.specs.Context.{listed}
 use Rattle.gv_checks.specs.Queries.{case_queries}
 use Rattle.gv_checks.specs.Shared.{AreKept}
 use Rattle.gv_checks.specs.Walks.{IsOnWay}

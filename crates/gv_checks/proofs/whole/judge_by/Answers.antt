@@ -15,7 +15,7 @@ returns-in-Err-clause-first g c =
 
 pub returns-clause-judges : goal.returns-clause-judges
 returns-clause-judges g c =
-    ends_over c.in_ok-walk.walk c.args.options.now c.args.repo.now c.in_ok-walk.ensures c.args.options.now.budget c.args.certs.now c.args.steps.now c.judge.new.steps c.in-Ok.answers c.in-Ok.answers.plain c.in-Ok.ensures.plain c.in-Ok.ensures.answers
+    ends_over c.told_law.ensures c.in_ok-walk.walk c.args.options.now c.args.repo.now c.in_ok-walk.ensures c.args.options.now.budget c.args.certs.now c.args.steps.now c.judge.new.steps c.in-Ok.answers c.in-Ok.answers.plain c.in-Ok.ensures.plain c.in-Ok.ensures.answers
     refl _ c.in_ok-reports.ensures refl refl
 
 pub returns-in-Err-clause-few : goal.returns-in-Err-clause-few

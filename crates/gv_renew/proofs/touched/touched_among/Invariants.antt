@@ -1,5 +1,5 @@
 use Rattle.std.proofs.Common.{drop}
-use Rattle.gv_checks.specs.Cases.{members_from}
+use Rattle.gv_plain.specs.Cases.{members_from}
 use Rattle.gv_renew.specs.Touched.{IsSoFar}
 use Rattle.gv_renew.proofs.touched.touched_among.Given as goal
 

@@ -1,5 +1,5 @@
 use Rattle.std.proofs.Common.{arith, subst}
-use Rattle.gv_run.specs.Fetching.{AreJoined}
+use Rattle.gv_ending.specs.Fetching.{AreJoined}
 use Rattle.gv_run.proofs.Parted.{merge_left_from}
 use Rattle.gv_run.proofs.merging.merge_parts.Goals as goal
 

@@ -2,7 +2,7 @@ use Rattle.std.proofs.Common.{◌≡◌, Some, rules}
 use Rattle.gv_visible.specs.Candidates.{level_of, pkgs_of, profile_of}
 use Rattle.gv_checks.specs.Keys.{sites_at}
 use Rattle.gv_checks.proofs.KeyLemmas.{key_none, key_some, sites_among, sites_one}
-use Rattle.gv_checks.proofs.SharedLemmas.{on_ok}
+use Rattle.gv_plain.specs.Lists.{on_ok}
 use Rattle.gv_checks.proofs.keys.PkgSites.add_key.Goals as goal
 
 pub returns-in-None : goal.returns-in-None

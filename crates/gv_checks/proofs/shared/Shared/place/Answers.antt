@@ -1,5 +1,5 @@
 use Rattle.std.proofs.Common.{subst, sym}
-use Rattle.gv_checks.specs.Context.{case_of}
+use Rattle.gv_plain.specs.Context.{case_of}
 use Rattle.gv_checks.specs.Shared.{AreNoted}
 use Rattle.gv_checks.proofs.SharedLemmas.{as_place, first_same, here_more}
 use Rattle.gv_checks.proofs.shared.Shared.place.Goals as goal

@@ -1,5 +1,5 @@
 use Rattle.std.proofs.Common.{◌≡◌, ap, rules, subst, sym, ◌∙◌}
-use Rattle.gv_checks.specs.Context.{case_of}
+use Rattle.gv_plain.specs.Context.{case_of}
 use Rattle.gv_checks.specs.Keys.{ArePartsOf}
 use Rattle.gv_checks.specs.Queries.{query_of}
 use Rattle.gv_checks.specs.Shared.{key_of}

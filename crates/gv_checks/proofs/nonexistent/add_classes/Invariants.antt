@@ -1,8 +1,0 @@
-use Rattle.std.proofs.Common.{◌≡◌, ◌++◌, drop, filter}
-use Rattle.std.specs.Prelude.{flat_map}
-use Rattle.gv_checks.specs.RepoReports.{is_readable, nonexistent_in}
-use Rattle.gv_checks.proofs.nonexistent.add_classes.Given as goal
-
-abbrev pub invariant-loop-class : goal.invariant-loop-class
-invariant-loop-class l = l.reports ++ flat_map (nonexistent_in l.pkgs l.pkg l.body) (filter (is_readable l.pkg l.body) (drop l.class-index l.classes))
-    ≡ l.initial.reports ++ flat_map (nonexistent_in l.pkgs l.pkg l.body) (filter (is_readable l.pkg l.body) l.classes)

@@ -1,9 +1,0 @@
-use Rattle.std.proofs.Common.{◌≡◌, ◌++◌, drop}
-use Rattle.std.specs.Prelude.{flat_map}
-use Rattle.gv_checks.specs.Cases.{members_from}
-use Rattle.gv_checks.specs.Plain.{told_member}
-use Rattle.gv_checks.proofs.plainly.add_members.Given as goal
-
-abbrev pub invariant-loop-i : goal.invariant-loop-i
-invariant-loop-i l = l.reports ++ flat_map (told_member l.walk.options l.walk.repo) (members_from l.i (drop l.i l.pkgs) (drop l.i l.bodies))
-    ≡ l.initial.reports ++ flat_map (told_member l.walk.options l.walk.repo) (members_from 0 l.pkgs l.bodies)

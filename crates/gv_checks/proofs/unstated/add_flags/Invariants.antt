@@ -1,8 +1,0 @@
-use Rattle.std.proofs.Common.{◌≡◌, ◌++◌, drop, filter, map}
-use Rattle.gv_checks.specs.Context.{case_of}
-use Rattle.gv_checks.specs.RepoReports.{is_unstated, unstated}
-use Rattle.gv_checks.proofs.unstated.add_flags.Given as goal
-
-abbrev pub invariant-loop-flag : goal.invariant-loop-flag
-invariant-loop-flag l = l.reports ++ map (unstated (case_of l.judged) l.class) (filter (is_unstated (case_of l.judged)) (drop l.flag-index l.flags))
-    ≡ l.initial.reports ++ map (unstated (case_of l.judged) l.class) (filter (is_unstated (case_of l.judged)) l.flags)

@@ -1,6 +1,0 @@
-use Rattle.std.proofs.Common.{◌≡◌, ◌++◌, drop, filter}
-use Rattle.gv_checks.specs.Plain.{is_other}
-use Rattle.gv_checks.proofs.unstated.others_of.Given as goal
-
-abbrev pub invariant-loop-flag : goal.invariant-loop-flag
-invariant-loop-flag l = l.others ++ filter (is_other l.pkg) (drop l.flag-index l.flags) ≡ filter (is_other l.pkg) l.flags

@@ -1,0 +1,4 @@
+pub mod Causes
+pub mod World
+pub mod Fetching
+pub mod Endings

@@ -1,0 +1,10 @@
+pub mod Cases
+pub mod Classes
+pub mod Context
+pub mod Lists
+pub mod Plain
+pub mod PlainReports
+pub mod Seen
+pub mod Shown
+pub mod Telling
+pub mod Views

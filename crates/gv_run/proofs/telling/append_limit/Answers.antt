@@ -1,4 +1,0 @@
-use Rattle.gv_run.proofs.telling.append_limit.Goals as goal
-
-pub returns : goal.returns
-returns c = rw c.in_ok-numbered.ensures at c.append_place.ensures
