@@ -148,6 +148,13 @@ def visits_of_many_lines():
             **package("app/p", IUSE="m0000001 a", RDEPEND="m0000001? ( x/none )")}
 
 
+def visits_of_many_masks():
+    """The same with 16 MiB of masks."""
+    lines = "".join(f"a/m{number:07}\n" for number in range(16_777_216 // 11))
+    return {**profiles(), "profiles/base/parent": "../many\n" * 4095, "profiles/many/eapi": "8\n", "profiles/many/package.mask": lines,
+            **package("app/p")}
+
+
 def lines_above_many_flags():
     """1,000 lines of profiles.desc with one folder, and 20,000 flags in its use.mask."""
     return {**profiles("".join(f"a{n} base stable\n" for n in range(1000))), "profiles/base/use.mask": "".join(f"m{n}\n" for n in range(20_000)),
@@ -226,7 +233,7 @@ KINDS = {kind.__name__.replace("_", "-"): kind for kind in (
     versions_that_ask_for_the_greatest, many_versions_under_a_hundred_atoms, atoms_that_match_all, flags_above_equal_atoms,
     more_flags_above_equal_atoms, no_assignment_meets_it, groups_in_groups, exactly_one_of_many, pigeons, more_pigeons, most_pigeons,
     equal_tokens, values_that_double,
-    values_within_their_room, parents_twice, parents_twice_above_many_lines, visits_of_many_lines, lines_above_many_flags,
+    values_within_their_room, parents_twice, parents_twice_above_many_lines, visits_of_many_lines, visits_of_many_masks, lines_above_many_flags,
     values_at_each_visit, chain_of_parents, masks_taken_away, lines_of_one_folder,
     packages_by_lines, rules_that_name_one_flag, names_that_are_no_package, categories_without_a_folder, self_links, self_links_below_a_cut)}
 

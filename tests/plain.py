@@ -313,7 +313,7 @@ def line_of(report):
     return ": ".join(words) + "\n"
 
 
-def shown(value):
+def in_object(value):
     """A value as it stands in JSON, where any byte of a text that isn't printable is a `?`."""
     return "".join(letter if " " <= letter <= "~" else "?" for letter in value) if isinstance(value, str) else value
 
@@ -324,7 +324,7 @@ def object_of(report):
         value["package"] = report["subject"]["pf"]
     if report.get("profile"):
         value["arch"], value["profile"] = report["profile"]["arch"], report["profile"]["path"]
-    return json.dumps({key: shown(part) for key, part in value.items()}, sort_keys=True, separators=(",", ":")) + "\n"
+    return json.dumps({key: in_object(part) for key, part in value.items()}, sort_keys=True, separators=(",", ":")) + "\n"
 
 
 def profiles_of(files):

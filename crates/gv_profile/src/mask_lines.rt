@@ -11,6 +11,7 @@ ghost use Rattle.gv_profile.specs.Lines.{file_lines};
 
 use crate::NamedFiles;
 use crate::lines::line_words;
+use crate::room::MAX_LINES;
 use gv_atom::{Atom, AtomFault, read_atom};
 use gv_base::{Cut, NoMemory, Text, next_piece};
 use gv_facts::{Mask, Masks};
@@ -56,6 +57,9 @@ impl MaskLines {
         ensures ok { OnOk result (self.new ≡ self.old ++ item ∷ []) }
         ensures err { OnErr result (self.new ≡ self.old) }
     {
+        if self.items.len() >= MAX_LINES {
+            return Err(NoMemory);
+        }
         self.items.push(item)?;
         Ok(())
     }

@@ -19,6 +19,9 @@ pub struct Room {
 /// How many flags are kept of one stack: 2^20.
 pub(crate) const MAX_FLAGS: usize = 0x10_0000;
 
+/// How many lines of mask files are kept until a stack is folded: 2^20.
+pub(crate) const MAX_LINES: usize = 0x10_0000;
+
 impl Room {
     /// The room of a load.
     pub fn new() -> Room
