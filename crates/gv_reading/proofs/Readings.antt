@@ -19,11 +19,11 @@ use Rattle.gv_base.specs.declared.tree.Found.{Found}
 use Rattle.gv_base.specs.declared.tree.Found.TheVariants.{File}
 use Rattle.gv_reading.specs.declared.faults.LoadFault.{LoadFault}
 use Rattle.gv_reading.specs.declared.faults.LoadFault.TheVariants.{Limit}
-use Rattle.gv_reading.specs.Causes.{Agrees, Cause, Knows, Reads, View, IsTold, look_in}
+use Rattle.gv_reading.specs.Causes.{Agrees, Cause, IsOfPath, Knows, Reads, View, IsTold, look_in}
 use Rattle.gv_reading.specs.Reader.{Seen, nothing}
 use Rattle.gv_reading.specs.Look.{Look}
 use Rattle.gv_reading.specs.Reading.{list, with_found, after_list, after_new, most_path}
-use Rattle.gv_reading.specs.Passing.{same_cause, same_view}
+use Rattle.gv_reading.specs.Passing.{path_of_one, same_cause, same_view}
 
 -- ---- what the tree tells
 pub told_found : (told : Option FileMap) (path : List ℕ) (found : Found) → IfSome told (λ m. found ≡ found_at m path) → IsTold told → found ≡ (look_in told).found path
@@ -95,18 +95,19 @@ known_before told seen path knows there t = by (get seen.known path) refl there
 -- ---- names that were listed
 pub listed : {T : Type 0} (see : T → View) (before now : T) (seen : Seen) (path : List ℕ) (result : Result (List (List ℕ)) LoadFault) → Knows (see before).told seen →
     IfOk result (λ names. IsTold (see before).told → names ≡ (look_in (see before).told).names path) → OnOk result (after_list seen path ≡ Ok seen) →
-    IfErr result (Cause (see before).told (see before).faults (see now).faults (after_list seen path)) →
+    IfErr result (Cause (see before).told (see before).faults (see now).faults (after_list seen path)) → IfErr result (IsOfPath (λ p. path ≡ p)) →
     (see now).told ≡ (see before).told → (see now).around ≡ (see before).around → (see before).faults ≤ (see now).faults → OnOk result ((see now).faults ≡ (see before).faults) →
     Reads see before now (λ look. list path ∷ []) (λ look names. names ≡ look.names path) seen seen result
-listed see before now seen path (Ok names) knows is passed cause told around later calm = record {
+listed see before now seen path (Ok names) knows is passed cause asked told around later calm = record {
   same = same_view (see before) (see now) told calm around;
   knows = knows;
   passed = λ t. rw passed refl;
   value = is;
 }
-listed see before now seen path (Err fault) knows is passed cause told around later calm = record {
+listed see before now seen path (Err fault) knows is passed cause asked told around later calm = record {
   told = told;
   around = around;
   later = later;
   cause = same_cause (see before).told (see before).faults (see now).faults _ _ fault (λ t f at. rw at refl) cause;
+  asked = path_of_one (see before).told seen (list path) fault asked;
 }

@@ -10,7 +10,7 @@ use Rattle.gv_base.specs.declared.tree.Found.{Found}
 use Rattle.gv_reading.specs.declared.faults.LoadFault.{LoadFault}
 use Rattle.gv_reading.specs.declared.faults.LoadFault.TheVariants.{Tree, NotARepository, Limit, NoMemory}
 use Rattle.gv_reading.specs.Reader.{Seen}
-use Rattle.gv_reading.specs.Reading.{Out, Step, passed}
+use Rattle.gv_reading.specs.Reading.{IsAsked, Out, Step, passed}
 
 -- whether the files of a tree are told, and what can be seen of them then
 abbrev pub IsTold : Option FileMap → Type 0
@@ -33,6 +33,13 @@ Cause told before now out NoMemory = Unit {0}
 Cause told before now out (Tree path) = Rose before now
 Cause told before now out (NotARepository path) = (now ≡ before) × (IsTold told → out ≡ Err (NotARepository path))
 Cause told before now out (Limit place number) = (now ≡ before) × (IsTold told → out ≡ Err (Limit place number))
+
+-- where the fault is one of the tree, its path is such a one
+abbrev pub IsOfPath : (List ℕ → Type 0) → LoadFault → Type 0
+IsOfPath Fits NoMemory = Unit {0}
+IsOfPath Fits (Tree path) = Fits path
+IsOfPath Fits (NotARepository path) = Unit {0}
+IsOfPath Fits (Limit place number) = Unit {0}
 
 -- what was read is what can be seen
 abbrev pub Agrees : Look → Seen → Type 0
@@ -58,12 +65,13 @@ pub record HasRead (before now : View) (steps : Look → List Step) (Value : Loo
   pub passed : IsTold before.told → passed (look_in before.told) old (steps (look_in before.told)) ≡ Ok new
   pub value : IsTold before.told → Value (look_in before.told)
 
--- reading ended at a fault
+-- reading ended at a fault, one of the tree where a step asked it that comes behind steps that pass
 pub record HasEnded (before now : View) (steps : Look → List Step) (old : Seen) (fault : LoadFault) : Type 0 where
   pub told : now.told ≡ before.told
   pub around : now.around ≡ before.around
   pub later : before.faults ≤ now.faults
   pub cause : Cause before.told before.faults now.faults (passed (look_in before.told) old (steps (look_in before.told))) fault
+  pub asked : IsOfPath (λ path. IsTold before.told → IsAsked (look_in before.told) old (steps (look_in before.told)) path) fault
 
 -- what a reading by these steps comes to
 abbrev pub Reads : {T V : Type 0} → (T → View) → (before now : T) → (Look → List Step) → (Look → V → Type 0) → (old new : Seen) → Result V LoadFault → Type 0

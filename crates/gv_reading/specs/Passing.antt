@@ -6,10 +6,10 @@ use Rattle.std.specs.Result.{IsErrAnd}
 use Rattle.gv_base.specs.FileMap.{FileMap}
 use Rattle.gv_reading.specs.declared.faults.LoadFault.{LoadFault}
 use Rattle.gv_reading.specs.declared.faults.LoadFault.TheVariants.{Tree, NotARepository, Limit, NoMemory}
-use Rattle.gv_reading.specs.Causes.{Around, Cause, HasEnded, HasRead, IsTold, Knows, View, look_in}
+use Rattle.gv_reading.specs.Causes.{Around, Cause, HasEnded, HasRead, IsOfPath, IsTold, Knows, Reads, View, look_in}
 use Rattle.gv_reading.specs.Reader.{Seen}
 use Rattle.gv_reading.specs.Look.{Look}
-use Rattle.gv_reading.specs.Reading.{Out, Step, after, passed, and_then}
+use Rattle.gv_reading.specs.Reading.{Asks, IsAsked, Out, Step, after, after_read, and_then, need, passed, read}
 
 pub passed-append : (look : Look) (old : Seen) (xs ys : List Step) → passed look old (xs ++ ys) ≡ and_then (passed look old xs) (λ next. passed look next ys)
 passed-append look old [] ys = refl
@@ -27,6 +27,66 @@ same_cause told before now part whole NoMemory through cause = tt
 same_cause told before now part whole (Tree path) through cause = cause
 same_cause told before now part whole (NotARepository path) through cause = (cause.0, λ t. through t (NotARepository path) (cause.1 t))
 same_cause told before now part whole (Limit place number) through cause = (cause.0, λ t. through t (Limit place number) (cause.1 t))
+
+-- ---- the path of a fault
+pub same_path : {P Q : List ℕ → Type 0} (fault : LoadFault) → ((path : List ℕ) → P path → Q path) → IsOfPath P fault → IsOfPath Q fault
+same_path NoMemory through is = tt
+same_path (Tree path) through is = through path is
+same_path (NotARepository path) through is = tt
+same_path (Limit place number) through is = tt
+
+-- the first of more steps ask there, or those behind them
+pub asked_first : (look : Look) (old : Seen) (xs ys : List Step) (path : List ℕ) → IsAsked look old xs path → IsAsked look old (xs ++ ys) path
+asked_first look old xs ys path a = record {
+  front = a.front;
+  step = a.step;
+  behind = a.behind ++ ys;
+  seen = a.seen;
+  are = ap (λ ss. ss ++ ys) a.are ∙ append_assoc a.front (a.step ∷ a.behind) ys;
+  passes = a.passes;
+  asks = a.asks;
+}
+
+pub asked_behind : (look : Look) (old mid : Seen) (xs ys : List Step) (path : List ℕ) → passed look old xs ≡ Ok mid → IsAsked look mid ys path → IsAsked look old (xs ++ ys) path
+asked_behind look old mid xs ys path went a = record {
+  front = xs ++ a.front;
+  step = a.step;
+  behind = a.behind;
+  seen = a.seen;
+  are = ap (λ ss. xs ++ ss) a.are ∙ sym (append_assoc xs a.front (a.step ∷ a.behind));
+  passes = passed-append look old xs a.front ∙ rw went a.passes;
+  asks = a.asks;
+}
+
+pub asked_as : (look : Look) (old : Seen) (xs ys : List Step) (path : List ℕ) → ys ≡ xs → IsAsked look old xs path → IsAsked look old ys path
+asked_as look old xs ys path is a = subst (λ (ss : List Step). IsAsked look old ss path) (sym is) a
+
+-- the only step asks there
+pub asked_one : (look : Look) (old : Seen) (step : Step) (path : List ℕ) → Asks old step path → IsAsked look old (step ∷ []) path
+asked_one look old step path asks = record { front = []; step = step; behind = []; seen = old; are = refl; passes = refl; asks = asks }
+
+asked_of_one : (look : Look) (old : Seen) (step : Step) (path : List ℕ) → IsAsked look old (step ∷ []) path → Asks old step path
+asked_of_one look old step path a = by a.front a.are a.passes
+  where
+    by : (front : List Step) → step ∷ [] ≡ front ++ a.step ∷ a.behind → passed look old front ≡ Ok a.seen → Asks old step path
+    by [] are passes =
+        let same : a.step ≡ step = cc in
+        let seen : a.seen ≡ old = cc in
+        subst (λ (s : Step). Asks old s path) same (subst (λ (s : Seen). Asks s a.step path) seen a.asks)
+    by (x ∷ []) are passes = let none : ⊥ = cc in absurd none
+    by (x ∷ y ∷ zs) are passes = let none : ⊥ = cc in absurd none
+
+-- another step asks there too
+pub asked_alike : (look : Look) (old : Seen) (one two : Step) (path : List ℕ) → (Asks old one path → Asks old two path) → IsAsked look old (one ∷ []) path → IsAsked look old (two ∷ []) path
+asked_alike look old one two path alike a = asked_one look old two path (alike (asked_of_one look old one path a))
+
+-- the path of a fault of one step
+pub path_of_one : (told : Option FileMap) (old : Seen) (step : Step) (fault : LoadFault) → IsOfPath (λ path. Asks old step path) fault →
+    IsOfPath (λ path. IsTold told → IsAsked (look_in told) old (step ∷ []) path) fault
+path_of_one told old step fault is = same_path fault (λ path asks t. asked_one (look_in told) old step path asks) is
+
+abbrev passed-none : Seen → Out
+passed-none seen = Ok seen
 
 abbrev of_three : Option FileMap → ℕ → Around → View
 of_three told faults around = record { told = told; faults = faults; around = around }
@@ -56,6 +116,7 @@ module _ {before now : View} {old : Seen} where
     later = one.later;
     cause = same_cause before.told before.faults now.faults _ _ fault
         (λ t f is. ap (passed (look_in before.told) old) (steps _) ∙ passed-append (look_in before.told) old (xs (look_in before.told)) (ys (look_in before.told)) ∙ rw is refl) one.cause;
+    asked = same_path fault (λ path asked t. asked_as (look_in before.told) old _ _ path (steps _) (asked_first (look_in before.told) old (xs (look_in before.told)) (ys (look_in before.told)) path (asked t))) one.asked;
   }
 
   pub ended_front : {xs : Look → List Step} {fault : LoadFault} (ys : Look → List Step) → HasEnded before now xs old fault → HasEnded before now (λ look. xs look ++ ys look) old fault
@@ -68,6 +129,7 @@ module _ {before now : View} {old : Seen} where
     around = ap (λ (v : View). v.around) is;
     later = let e : now.faults ≡ before.faults = ap (λ (v : View). v.faults) is in omega arith;
     cause = tt;
+    asked = tt;
   }
 
 -- the same steps, said otherwise
@@ -77,6 +139,21 @@ ended_as {before = before} {now = now} {old = old} {fault = fault} one steps = r
   around = one.around;
   later = one.later;
   cause = same_cause before.told before.faults now.faults _ _ fault (λ t f is. ap (passed (look_in before.told) old) (steps _) ∙ is) one.cause;
+  asked = same_path fault (λ path asked t. asked_as (look_in before.told) old _ _ path (steps _) (asked t)) one.asked;
+}
+
+-- a path that has to be a file couldn't be read
+refused_read : (o : Out) (fault : LoadFault) → and_then o (λ next. passed-none next) ≡ Err fault → o ≡ Err fault
+refused_read (Ok seen) fault is = cc
+refused_read (Err f) fault is = is
+
+pub ended_need : {before now : View} {old : Seen} {path : List ℕ} {fault : LoadFault} → HasEnded before now (λ look. read path ∷ []) old fault → HasEnded before now (λ look. need path ∷ []) old fault
+ended_need {before = before} {now = now} {old = old} {path = path} {fault = fault} one = record {
+  told = one.told;
+  around = one.around;
+  later = one.later;
+  cause = same_cause before.told before.faults now.faults _ _ fault (λ t f is. rw (refused_read (after_read (look_in before.told) old path) f is) refl) one.cause;
+  asked = same_path fault (λ p asked t. asked_alike (look_in before.told) old (read path) (need path) p (λ asks. asks) (asked t)) one.asked;
 }
 
 -- what `?` hands on
@@ -107,6 +184,8 @@ module _ {before mid now : View} {old m : Seen} where
         later = more.later;
         cause = same_cause before.told before.faults now.faults _ _ fault
             (λ t f is. ap (passed (look_in before.told) old) (steps _ (one.value t)) ∙ passed-append (look_in before.told) old (xs (look_in before.told)) (ys (look_in before.told)) ∙ rw (one.passed t) is) more.cause;
+        asked = same_path fault (λ path asked t. asked_as (look_in before.told) old _ _ path (steps _ (one.value t))
+            (asked_behind (look_in before.told) old m (xs (look_in before.told)) (ys (look_in before.told)) path (one.passed t) (asked t))) more.asked;
       }
 
   pub read_both : {new : Seen} {xs ys : Look → List Step} {P Q : Look → Type 0} → HasRead before mid xs P old m → HasRead mid now ys Q m new → HasRead before now (λ look. xs look ++ ys look) (λ look. P look × Q look) old new
@@ -114,6 +193,13 @@ module _ {before mid now : View} {old m : Seen} where
 
   pub ended_behind : {xs ys : Look → List Step} {P : Look → Type 0} {fault : LoadFault} → HasRead before mid xs P old m → HasEnded mid now ys m fault → HasEnded before now (λ look. xs look ++ ys look) old fault
   ended_behind one two = ended_then one two (λ look p. refl)
+
+-- what the second one comes to, whatever that is
+pub reads_then : {T V : Type 0} (see : T → View) (ys zs : Look → List Step) (Value End : Look → V → Type 0) {before mid : T} (now : T) {old m : Seen} (new : Seen) {xs : Look → List Step} {P : Look → Type 0} (result : Result V LoadFault)
+    → HasRead (see before) (see mid) xs P old m → Reads see mid now ys Value m new result → ((look : Look) → P look → zs look ≡ xs look ++ ys look) → ((look : Look) (v : V) → P look → Value look v → End look v)
+    → Reads see before now zs End old new result
+reads_then see ys zs Value End now new (Ok v) one two steps says = read_then one two (λ look p q. steps look p) (λ look p q. says look v p q)
+reads_then see ys zs Value End now new (Err fault) one two steps says = ended_then one two steps
 
 -- ---- over a list
 module _ {X : Type 0} where
@@ -138,10 +224,11 @@ pub record IsAmid (before now : View) (start old : Seen) (left all : Look → Li
   pub same : now ≡ before
   pub knows : Knows before.told old
   pub rest : IsTold before.told → passed (look_in before.told) old (left (look_in before.told)) ≡ passed (look_in before.told) start (all (look_in before.told))
+  pub asked : IsTold before.told → (path : List ℕ) → IsAsked (look_in before.told) old (left (look_in before.told)) path → IsAsked (look_in before.told) start (all (look_in before.told)) path
   pub value : IsTold before.told → Value (look_in before.told)
 
 pub amid_start : {at : View} {start : Seen} {all : Look → List Step} {P : Look → Type 0} → Knows at.told start → ((look : Look) → P look) → IsAmid at at start start all all P
-amid_start knows says = record { same = refl; knows = knows; rest = λ t. refl; value = λ t. says _ }
+amid_start knows says = record { same = refl; knows = knows; rest = λ t. refl; asked = λ t path is. is; value = λ t. says _ }
 
 module _ {before mid now : View} {start old : Seen} {left one all : Look → List Step} {P : Look → Type 0} where
   pub amid_next : {new : Seen} {behind : Look → List Step} {Q R : Look → Type 0} → IsAmid before mid start old left all P → HasRead mid now one Q old new → ((look : Look) → left look ≡ one look ++ behind look) →
@@ -153,6 +240,8 @@ module _ {before mid now : View} {start old : Seen} {left one all : Look → Lis
         knows = more.knows;
         rest = λ t. sym (ap (passed (look_in before.told) old) (steps _) ∙ passed-append (look_in before.told) old (one (look_in before.told)) (behind (look_in before.told))
             ∙ ap (λ (o : Out). and_then o (λ n. passed (look_in before.told) n (behind (look_in before.told)))) (more.passed t)) ∙ amid.rest t;
+        asked = λ t path is. amid.asked t path (asked_as (look_in before.told) old _ _ path (steps _)
+            (asked_behind (look_in before.told) old new (one (look_in before.told)) (behind (look_in before.told)) path (more.passed t) is));
         value = λ t. says _ (amid.value t) (more.value t);
       }
 
@@ -166,6 +255,8 @@ module _ {before mid now : View} {start old : Seen} {left one all : Look → Lis
         cause = same_cause before.told before.faults now.faults _ _ fault
             (λ t f is. sym (amid.rest t) ∙ ap (passed (look_in before.told) old) (steps _) ∙ passed-append (look_in before.told) old (one (look_in before.told)) (behind (look_in before.told))
             ∙ ap (λ (o : Out). and_then o (λ n. passed (look_in before.told) n (behind (look_in before.told)))) is) more.cause;
+        asked = same_path fault (λ path is t. amid.asked t path (asked_as (look_in before.told) old _ _ path (steps _)
+            (asked_first (look_in before.told) old (one (look_in before.told)) (behind (look_in before.told)) path (is t)))) more.asked;
       }
 
 pub amid_end : {before now : View} {start old : Seen} {left all : Look → List Step} {P Q : Look → Type 0} → IsAmid before now start old left all P → ((look : Look) → left look ≡ []) →

@@ -1,5 +1,5 @@
 -- What is read, step by step, and where that is refused.
-use Rattle.std.specs.Prelude.{ℕ, ◌+◌, nat_lt, Bool, List, [], ◌∷◌, if◌then◌else◌, Result, Ok, Err, length}
+use Rattle.std.specs.Prelude.{◌≡◌, ℕ, ◌+◌, nat_lt, Bool, List, [], ◌∷◌, ◌++◌, None, if◌then◌else◌, Result, Ok, Err, length}
 use Rattle.std.specs.Option.{is_some}
 use Rattle.std.specs.FinMap.{get, insert}
 use Rattle.gv_base.specs.Outside.{most_file_bytes}
@@ -76,3 +76,21 @@ after look seen (once path) = after_once look seen path
 abbrev pub passed : Look → Seen → List Step → Out
 passed look seen [] = Ok seen
 passed look seen (step ∷ steps) = and_then (after look seen step) (λ next. passed look next steps)
+
+-- a step asks the tree at a path: it lists it, or reads it where no earlier step did
+abbrev pub Asks : Seen → Step → List ℕ → Type 0
+Asks seen (read place) path = (place ≡ path) × (get seen.known place ≡ None)
+Asks seen (list place) path = place ≡ path
+Asks seen (need place) path = (place ≡ path) × (get seen.known place ≡ None)
+Asks seen (bound place most passes) path = ⊥
+Asks seen (once place) path = (place ≡ path) × (get seen.known place ≡ None)
+
+-- one of these steps asks there, and those before it pass
+pub record IsAsked (look : Look) (old : Seen) (steps : List Step) (path : List ℕ) : Type 0 where
+  pub front : List Step
+  pub step : Step
+  pub behind : List Step
+  pub seen : Seen
+  pub are : steps ≡ front ++ step ∷ behind
+  pub passes : passed look old front ≡ Ok seen
+  pub asks : Asks seen step path

@@ -5,10 +5,10 @@ ghost use Rattle.std.specs.Prelude.{◌≡◌, ◌≤◌, ◌∷◌, [], Ok, Err
 ghost use Rattle.std.specs.FinMap as finite;
 ghost use Rattle.gv_base.specs.FileMap.{FileMap};
 ghost use Rattle.gv_base.specs.Outside.{HasAtMost, most_file_bytes};
-ghost use Rattle.gv_reading.specs.Causes.{Cause, IsTold, Knows, Reads, around, look_in, view};
+ghost use Rattle.gv_reading.specs.Causes.{Cause, IsOfPath, IsTold, Knows, Reads, around, look_in, view};
 ghost use Rattle.gv_reading.specs.Look.{bytes_in, bytes_at, text_at};
 ghost use Rattle.gv_reading.specs.Reader.{Seen, nothing};
-ghost use Rattle.gv_reading.specs.Reading.{most_files, most_path, after_read, after_new, after_list, with_new, with_found, read, list, need, once};
+ghost use Rattle.gv_reading.specs.Reading.{Asks, most_files, most_path, after_read, after_new, after_list, with_new, with_found, read, list, need, once};
 
 use crate::LoadFault;
 use crate::faults::{failed, limit, missing};
@@ -114,6 +114,7 @@ impl Reader {
         ensures known { OnOk result (IsTold (T.files tree.old) → finite.get self.new.known path.now ≡ Some ((look_in (T.files tree.old)).found path.now)) }
         ensures knows { OnOk result (Knows (T.files tree.old) self.new) }
         ensures cause { IfErr result (Cause (T.files tree.old) (T.faults tree.old) (T.faults tree.new) (after_read (look_in (T.files tree.old)) self.old path.now)) }
+        ensures asked { IfErr result (IsOfPath (Asks self.old (read path.now))) }
         ensures files { T.files tree.new ≡ T.files tree.old }
         ensures around { around (T.entered tree.new) (T.lent tree.new) ≡ around (T.entered tree.old) (T.lent tree.old) }
         ensures later { T.faults tree.old ≤ T.faults tree.new }
@@ -180,6 +181,7 @@ impl Reader {
         ensures known { OnOk result (self.new.known ≡ self.old.known) }
         ensures passed { IfOk result (λ found. IsTold (T.files tree.old) → after_new (look_in (T.files tree.old)) self.old path.now ≡ Ok (with_found self.old path.now found self.new.found)) }
         ensures cause { IfErr result (Cause (T.files tree.old) (T.faults tree.old) (T.faults tree.new) (after_new (look_in (T.files tree.old)) self.old path.now)) }
+        ensures asked { IfErr result (IsOfPath (λ p. path.now ≡ p)) }
         ensures files { T.files tree.new ≡ T.files tree.old }
         ensures around { around (T.entered tree.new) (T.lent tree.new) ≡ around (T.entered tree.old) (T.lent tree.old) }
         ensures later { T.faults tree.old ≤ T.faults tree.new }
@@ -237,6 +239,7 @@ fn list_names<T: Tree>(alloc: Global, tree: &mut T, path: &Text) -> Result<Texts
     ensures names { IfOk result (λ names. IsTold (T.files tree.old) → names ≡ (look_in (T.files tree.old)).names path.now) }
     ensures passed { (seen : Seen) → OnOk result (after_list seen path.now ≡ Ok seen) }
     ensures cause { (seen : Seen) → IfErr result (Cause (T.files tree.old) (T.faults tree.old) (T.faults tree.new) (after_list seen path.now)) }
+    ensures asked { IfErr result (IsOfPath (λ p. path.now ≡ p)) }
     ensures files { T.files tree.new ≡ T.files tree.old }
     ensures around { around (T.entered tree.new) (T.lent tree.new) ≡ around (T.entered tree.old) (T.lent tree.old) }
     ensures later { T.faults tree.old ≤ T.faults tree.new }
@@ -278,6 +281,7 @@ fn read_new<T: Tree>(alloc: Global, tree: &mut T, path: &Text) -> Result<Found, 
     ensures short { OnOk result (length path.now ≤ most_path) }
     ensures small { IfOk result (HasAtMost most_file_bytes) }
     ensures cause { (seen : Seen) → IfErr result (Cause (T.files tree.old) (T.faults tree.old) (T.faults tree.new) (after_new (look_in (T.files tree.old)) seen path.now)) }
+    ensures asked { IfErr result (IsOfPath (λ p. path.now ≡ p)) }
     ensures files { T.files tree.new ≡ T.files tree.old }
     ensures around { around (T.entered tree.new) (T.lent tree.new) ≡ around (T.entered tree.old) (T.lent tree.old) }
     ensures later { T.faults tree.old ≤ T.faults tree.new }
