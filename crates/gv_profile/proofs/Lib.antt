@@ -7,6 +7,7 @@ pub mod MaskLaw
 pub mod MaskLemmas
 pub mod PathLemmas
 pub mod SliceRests
+pub mod SourceLemmas
 pub mod StackLaw
 pub mod Walks
 pub mod WayLemmas

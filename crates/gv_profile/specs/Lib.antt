@@ -19,5 +19,6 @@ pub mod ParentWords
 pub mod Paths
 pub mod PrivateWords
 pub mod Slices
+pub mod Sources
 pub mod Stacks
 pub mod Walking

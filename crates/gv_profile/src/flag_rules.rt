@@ -1,5 +1,5 @@
 //! The rules on flags of a profile directory. Reading costs O(bytes), and a copy of the atom for each flag of a line.
-ghost use Rattle.std.specs.Prelude.{◌≡◌, ◌++◌, false, true, map, IfOk, OnOk};
+ghost use Rattle.std.specs.Prelude.{◌≡◌, ◌++◌, ◌∷◌, [], false, true, map, IfOk, OnOk};
 ghost use Rattle.gv_profile.specs.FlagLines.{is_off};
 ghost use Rattle.gv_profile.specs.Lines.{file_lines};
 ghost use Rattle.gv_profile.specs.FlagRules.{rule_of, line_rules, rules_among, rules_in, masks, forces, stable_rules, dir_rules};
@@ -76,6 +76,26 @@ pub(crate) fn add_dir_rules(
     )
 }
 
+/// Adds copies of these rules.
+pub(crate) fn add_copies(alloc: Global, rules: &mut Rules, more: &Rules) -> Result<(), NoMemory>
+    ensures { OnOk result (rules.new ≡ rules.old ++ more.now) }
+{
+    for rule in more.items() {
+        add_rule(rules, rule.copy(alloc)?)?;
+    }
+    Ok(())
+}
+
+// Adds a rule, where a stack has room for it.
+fn add_rule(rules: &mut Rules, rule: Rule) -> Result<(), NoMemory>
+    ensures { OnOk result (rules.new ≡ rules.old ++ rule ∷ []) }
+{
+    if rules.items().len() >= MAX_FLAGS {
+        return Err(NoMemory);
+    }
+    rules.add(rule)
+}
+
 fn is_off(word: &[u8]) -> bool
     ensures { result ≡ is_off word.now }
 {
@@ -124,10 +144,7 @@ fn add_words(
     ensures { OnOk result (rules.new ≡ rules.old ++ map (rule_of file atom.now) words.now) }
 {
     for word in words {
-        if rules.items().len() >= MAX_FLAGS {
-            return Err(NoMemory);
-        }
-        rules.add(rule_of(alloc, file, atom, word.bytes())?)?;
+        add_rule(rules, rule_of(alloc, file, atom, word.bytes())?)?;
     }
     Ok(())
 }

@@ -1,18 +1,17 @@
 //! What a stack comes to, folded directory by directory.
 //!
-//! A directory costs O(the bytes of its files and of the variables so far) each time that it is reached.
-ghost use Rattle.std.specs.Prelude.{◌≡◌, ◌++◌, map, IfOk, OnOk};
+//! Each time that a directory is reached it costs O(the bytes of its make.defaults and of the variables so far), and what
+//! `sources` says of its lines.
+ghost use Rattle.std.specs.Prelude.{◌≡◌, Some, map, IfOk};
 ghost use Rattle.std.specs.FinMap as finite;
-ghost use Rattle.std.specs.Option.{option_copied};
 ghost use Rattle.gv_base.specs.Order.{has_text};
 ghost use Rattle.gv_defaults.specs.Settings.{words_of};
 ghost use Rattle.gv_facts.specs.Visible.{testing};
-ghost use Rattle.gv_profile.specs.Folding.{vars_with, with_files, with_masks, with_dir, start, value_list, profile_with};
+ghost use Rattle.gv_profile.specs.Folding.{vars_with, with_files, with_dir, start, value_list, profile_with};
 ghost use Rattle.gv_profile.specs.Names.{accept_keywords, iuse_implicit, use_expand, use_expand_implicit, use_expand_unprefixed, use_expand_values};
 
-use crate::flag_rules::add_dir_rules;
-use crate::mask_lines::{MaskLines, add_mask_lines, masks_of};
-use crate::{DescLine, DirFiles, Dirs, NamedFiles, Room};
+use crate::mask_lines::{MaskLines, masks_of};
+use crate::{DescLine, DirFiles, Room, Sources};
 use gv_base::{NoMemory, Text, Texts};
 use gv_defaults::{Vars, read_defaults};
 use gv_facts::{Profile, Rules, ValueList, ValueLists, has_testing};
@@ -26,47 +25,40 @@ pub(crate) struct Folded {
     rules: Rules,
 }
 
-/// The lines of mask files more.
-pub(crate) fn with_masks(
-    alloc: Global,
-    folded: Folded,
-    files: &NamedFiles,
-) -> Result<Folded, NoMemory>
-    ensures { IfOk result (λ after. after ≡ with_masks folded files.now) }
-{
-    let Folded {
-        vars,
-        mut lines,
-        rules,
-    } = folded;
-    add_mask_lines(alloc, &mut lines, files)?;
-    Ok(Folded { vars, lines, rules })
-}
-
 /// Before the first directory there are the repository's own masks.
-pub(crate) fn start(alloc: Global, first: &NamedFiles, room: &mut Room) -> Result<Folded, NoMemory>
-    ensures { IfOk result (λ folded. folded ≡ start first.now) }
+pub(crate) fn start(
+    alloc: Global,
+    sources: &mut Sources<'_>,
+    room: &mut Room,
+) -> Result<Folded, NoMemory>
+    ensures same { sources.new ≡ sources.old }
+    ensures folded { IfOk result (λ folded. folded ≡ start sources.old.first) }
 {
-    room.begin(first)?;
-    let nothing = Folded {
+    room.begin(sources.first())?;
+    let mut lines = MaskLines::new(alloc);
+    sources.add_first(&mut lines)?;
+    Ok(Folded {
         vars: Vars::within(alloc, room.values),
-        lines: MaskLines::new(alloc),
+        lines,
         rules: Rules::new(alloc),
-    };
-    with_masks(alloc, nothing, first)
+    })
 }
 
 /// One directory more.
 pub(crate) fn with_dir(
     alloc: Global,
-    dirs: &Dirs,
+    sources: &mut Sources<'_>,
     folded: Folded,
     dir: &Text,
     room: &mut Room,
 ) -> Result<Folded, NoMemory>
-    ensures { IfOk result (λ after. after ≡ with_dir (finite.get dirs.now) folded dir.now) }
+    ensures same { sources.new ≡ sources.old }
+    ensures folded { IfOk result (λ after. after ≡ with_dir (finite.get sources.old.dirs) folded dir.now) }
 {
-    with_files(alloc, folded, dirs.get(dir.bytes()), room)
+    match sources.dirs().get(dir.bytes()) {
+        Some(files) => with_files(alloc, sources, folded, dir, files, room),
+        None => Ok(folded),
+    }
 }
 
 /// The profile of a line whose whole stack was folded.
@@ -114,27 +106,25 @@ fn vars_with(alloc: Global, vars: Vars, defaults: &Option<Text>) -> Result<Vars,
 
 fn with_files(
     alloc: Global,
+    sources: &mut Sources<'_>,
     folded: Folded,
-    files: Option<&DirFiles>,
+    dir: &Text,
+    files: &DirFiles,
     room: &mut Room,
 ) -> Result<Folded, NoMemory>
-    ensures { IfOk result (λ after. after ≡ with_files folded (option_copied files.entry)) }
+    requires { finite.get sources.old.dirs dir.now ≡ Some files.now }
+    ensures same { sources.new ≡ sources.old }
+    ensures folded { IfOk result (λ after. after ≡ with_files folded (Some files.now)) }
 {
-    match files {
-        Some(files) => {
-            let Folded {
-                vars,
-                mut lines,
-                mut rules,
-            } = folded;
-            room.visit(files)?;
-            let vars = vars_with(alloc, vars, &files.defaults)?;
-            add_mask_lines(alloc, &mut lines, &files.package_mask)?;
-            add_dir_rules(alloc, &mut rules, files)?;
-            Ok(Folded { vars, lines, rules })
-        }
-        None => Ok(folded),
-    }
+    let Folded {
+        vars,
+        mut lines,
+        mut rules,
+    } = folded;
+    room.visit(files)?;
+    let vars = vars_with(alloc, vars, &files.defaults)?;
+    sources.add_dir(dir, files, &mut lines, &mut rules)?;
+    Ok(Folded { vars, lines, rules })
 }
 
 #[tactic(auto, unfolding(crate::specs::Names::accept_keywords))]

@@ -5,7 +5,8 @@
 //! - `desc`, `parent_files`, `eapi`: the lists of profiles and of parents, and the EAPI of a directory.
 //! - `files`, `dirs`: the files of a directory as they were read, and the directories by path.
 //! - `mask_lines`, `flag_lines`: which lines of a mask or flag file are good, and what they say.
-//! - `flag_rules`, `folding`: what the files of one directory add to what a stack comes to.
+//! - `flag_rules`: the rules on flags of one directory.
+//! - `sources`, `folding`: what stacks are folded from, parsed once, and what each directory adds to what a stack comes to.
 //! - `frames`, `walking`, `profiles`: the walk of a stack, without recursion; the stack and the profile of a line.
 //! - `room`: what the stacks of a load may visit and keep.
 //! - `bad_lines`: the bad lines of a directory.
@@ -33,6 +34,7 @@ mod parent_files;
 mod paths;
 mod profiles;
 mod room;
+mod sources;
 mod walking;
 
 pub use bad_lines::{dir_notes, mask_notes};
@@ -50,4 +52,5 @@ pub use notes::{PlaceNote, PlaceNotes};
 pub use parent_files::{ParentLine, ParentLines, parents};
 pub use profiles::{fold, fold_within, line_dir, stack, top_dir, word_dir};
 pub use room::Room;
+pub use sources::Sources;
 pub use walking::parents_of;

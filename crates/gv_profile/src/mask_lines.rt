@@ -35,6 +35,21 @@ pub(crate) struct MaskLines {
     items: Vec<MaskLine>,
 }
 
+impl MaskLine {
+    fn copy(&self, alloc: Global) -> Result<MaskLine, NoMemory>
+        ensures { IfOk result (λ line. line ≡ self.now) }
+    {
+        match self {
+            MaskLine::Adds { mask } => Ok(MaskLine::Adds {
+                mask: mask.copy(alloc)?,
+            }),
+            MaskLine::Takes { text } => Ok(MaskLine::Takes {
+                text: text.copy(alloc)?,
+            }),
+        }
+    }
+}
+
 impl Model for MaskLines {
     ghost use Rattle.std.specs.Prelude.{List};
     ghost use Rattle.gv_profile.specs.declared.mask_lines.MaskLine.{MaskLine};
@@ -61,6 +76,16 @@ impl MaskLines {
             return Err(NoMemory);
         }
         self.items.push(item)?;
+        Ok(())
+    }
+
+    /// Adds copies of these lines.
+    pub(crate) fn add_copies(&mut self, alloc: Global, lines: &MaskLines) -> Result<(), NoMemory>
+        ensures { OnOk result (self.new ≡ self.old ++ lines.now) }
+    {
+        for line in &lines.items {
+            self.add(line.copy(alloc)?)?;
+        }
         Ok(())
     }
 
