@@ -65,7 +65,7 @@ abbrev empty : Body
 empty = record { required = Some []; depend = Some []; bdepend = Some []; rdepend = Some []; pdepend = Some []; idepend = Some [] }
 
 abbrev repo_of : List Pkg → List Body → List Profile → Repo
-repo_of pkgs bodies profiles = record { pkgs = pkgs; bodies = bodies; profiles = profiles; lines = []; categories = codes "app" ∷ []; directories = []; notes = [] }
+repo_of pkgs bodies profiles = record { pkgs = pkgs; bodies = bodies; profiles = profiles; lines = []; notes = [] }
 
 abbrev asking : List Keyword → Options
 asking ks = record { keywords = ks; profiles = None; json = false; budget = 1; in_range = (omega arith, omega arith) }

@@ -6,7 +6,7 @@ use Rattle.gv_load.specs.Closed.{IsClosed, IsClosedBut, paths_left}
 use Rattle.gv_load.specs.Directories.{dir_at}
 use Rattle.gv_load.specs.Going.{HasGone, HasStopped, LeadsOn}
 use Rattle.gv_load.specs.ListLemmas.{on_left}
-use Rattle.gv_load.specs.Reaches.{same_whole}
+use Rattle.gv_load.specs.Reaches.{asked_whole, same_whole}
 use Rattle.gv_load.specs.Reaching.{Dirs, from_line, reach_below}
 use Rattle.gv_load.specs.declared.reaching.Ahead.{Ahead}
 use Rattle.gv_load.specs.declared.reaching.Reached.{Reached}
@@ -38,6 +38,7 @@ wants {before = before} {now = now} reached whole same = record {
   around = ap (λ (v : View). v.around) same;
   later = let e : now.faults ≡ before.faults = ap (λ (v : View). v.faults) same in omega arith;
   cause = λ start so_far. tt;
+  asked = λ start so_far. tt;
 }
 
 -- ---- two of them
@@ -63,6 +64,8 @@ module _ {before mid now : View} {reached r : Reached} {old m : Seen} {paths : L
         later = more.later;
         cause = λ start so_far. same_whole before.told before.faults now.faults start (reached_after (dir_at (look_in before.told)) 0 ahead r.order) (whole (dir_at (look_in before.told))) fault
             (λ t. sym (one.value t).ends) (more.cause start (λ t. one.passed start t (so_far t)));
+        asked = λ start so_far. asked_whole before.told start (reached_after (dir_at (look_in before.told)) 0 ahead r.order) (whole (dir_at (look_in before.told))) fault
+            (λ t. sym (one.value t).ends) (more.asked start (λ t. one.passed start t (so_far t)));
       }
 
 pub wants_then : {before now : View} {reached r : Reached} {old new : Seen} {paths : List (List ℕ)} {whole : Dirs → List (List ℕ)} {ahead : List Ahead} → HasGone before now reached old new paths whole ahead r →

@@ -6,18 +6,20 @@ use Rattle.gv_reading.specs.declared.faults.LoadFault.{LoadFault}
 use Rattle.gv_reading.specs.declared.faults.LoadFault.TheVariants.{Tree, NotARepository, Limit, NoMemory}
 use Rattle.gv_load.specs.declared.freshness.PfKept.{PfKept}
 use Rattle.gv_load.specs.declared.lists.Lists.{Lists}
+use Rattle.gv_load.specs.declared.loading.Folders.{Folders}
 use Rattle.gv_load.specs.declared.loading.Repo.{Repo}
+use Rattle.gv_load.specs.declared.loading.RepoRead.{RepoRead}
 use Rattle.gv_load.specs.declared.line_profiles.Profiled.{Profiled}
-use Rattle.gv_reading.specs.Causes.{Cause, HasEnded, HasRead, View, IsTold, look_in}
+use Rattle.gv_reading.specs.Causes.{Cause, HasEnded, HasRead, IsOfPath, View, IsTold, look_in}
 use Rattle.gv_load.specs.Loading.{Finds, LoadCause, PassesWithin, loading}
 use Rattle.gv_load.specs.Freshness.{all_kept}
 use Rattle.gv_reading.specs.Reader.{Seen, nothing}
 use Rattle.gv_reading.specs.Look.{Look, look_of}
 use Rattle.gv_load.specs.Notes.{repository_notes}
 use Rattle.gv_load.specs.Order.{categories, desc_lines, list_steps, load_steps, packages_steps, profiles_steps}
-use Rattle.gv_load.specs.PartsRead.{lists_of, profiled_of, repo_with}
-use Rattle.gv_reading.specs.Reading.{Step, passed}
-use Rattle.gv_load.specs.Repository.{repository}
+use Rattle.gv_load.specs.PartsRead.{IsRepoOf, folders_with, lists_of, profiled_of, repo_with}
+use Rattle.gv_reading.specs.Reading.{IsAsked, Step, passed}
+use Rattle.gv_load.specs.Repository.{folders_of, repository}
 
 -- ---- the steps of the whole, where the lists are those of the tree
 abbrev pub steps_by : Look → Lists → List Step
@@ -36,11 +38,28 @@ whole : (look : Look) → repo_with (lists_of look) (profiled_of look (lists_of 
 unfolding repository repository_notes
 whole look = refl
 
-pub repo_is : (look : Look) (lists : Lists) (profiled : Profiled) (kepts : List PfKept) (repo : Repo) → repo ≡ repo_with lists profiled kepts → lists ≡ lists_of look → profiled ≡ profiled_of look lists.masks lists.lines →
+repo_is : (look : Look) (lists : Lists) (profiled : Profiled) (kepts : List PfKept) (repo : Repo) → repo ≡ repo_with lists profiled kepts → lists ≡ lists_of look → profiled ≡ profiled_of look lists.masks lists.lines →
     kepts ≡ all_kept look lists.categories → repo ≡ repository look
 repo_is look lists profiled kepts repo is lists_are profiled_is kepts_are =
     is ∙ ap (λ (p : Profiled). repo_with lists p kepts) profiled_is ∙ ap (repo_with lists (profiled_of look lists.masks lists.lines)) kepts_are
     ∙ ap (λ (l : Lists). repo_with l (profiled_of look l.masks l.lines) (all_kept look l.categories)) lists_are ∙ whole look
+
+-- ---- its folders
+whole_folders : (look : Look) → folders_with (lists_of look) (profiled_of look (lists_of look).masks (lists_of look).lines) ≡ folders_of look
+unfolding folders_of
+whole_folders look = refl
+
+folders_are : (look : Look) (lists : Lists) (profiled : Profiled) (folders : Folders) → folders ≡ folders_with lists profiled → lists ≡ lists_of look → profiled ≡ profiled_of look lists.masks lists.lines →
+    folders ≡ folders_of look
+folders_are look lists profiled folders is lists_are profiled_is =
+    is ∙ ap (folders_with lists) profiled_is ∙ ap (λ (l : Lists). folders_with l (profiled_of look l.masks l.lines)) lists_are ∙ whole_folders look
+
+pub read_is : (look : Look) (lists : Lists) (profiled : Profiled) (kepts : List PfKept) (read : RepoRead) → read.repo ≡ repo_with lists profiled kepts → read.folders ≡ folders_with lists profiled
+    → lists ≡ lists_of look → profiled ≡ profiled_of look lists.masks lists.lines → kepts ≡ all_kept look lists.categories → IsRepoOf look read
+read_is look lists profiled kepts read repo folders lists_are profiled_is kepts_are = record {
+  repo = repo_is look lists profiled kepts read.repo repo lists_are profiled_is kepts_are;
+  folders = folders_are look lists profiled read.folders folders lists_are profiled_is;
+}
 
 -- ---- what the load comes to
 loaded : (look : Look) (new : Seen) (repo : Repo) → passed look nothing (load_steps look) ≡ Ok new → repo ≡ repository look → loading look ≡ Ok repo
@@ -57,14 +76,16 @@ unfolding look_in
 as_told None new repo went is = tt
 as_told (Some files) new repo went is = loaded (look_of files) new repo (went refl) (is refl)
 
-load_cause : (told : Option FileMap) (before now : ℕ) (fault : LoadFault) → Cause told before now (passed (look_in told) nothing (load_steps (look_in told))) fault → LoadCause told before now fault
+load_cause : (told : Option FileMap) (before now : ℕ) (fault : LoadFault) → Cause told before now (passed (look_in told) nothing (load_steps (look_in told))) fault →
+    IsOfPath (λ path. IsTold told → IsAsked (look_in told) nothing (load_steps (look_in told)) path) fault → LoadCause told before now fault
 unfolding look_in
-load_cause told before now NoMemory cause = tt
-load_cause told before now (Tree path) cause = cause
-load_cause None before now (NotARepository path) cause = (cause.0, tt)
-load_cause (Some files) before now (NotARepository path) cause = (cause.0, refused (look_of files) (NotARepository path) (cause.1 refl))
-load_cause None before now (Limit place number) cause = (cause.0, tt)
-load_cause (Some files) before now (Limit place number) cause = (cause.0, refused (look_of files) (Limit place number) (cause.1 refl))
+load_cause told before now NoMemory cause asked = tt
+load_cause None before now (Tree path) cause asked = (cause, tt)
+load_cause (Some files) before now (Tree path) cause asked = (cause, asked refl)
+load_cause None before now (NotARepository path) cause asked = (cause.0, tt)
+load_cause (Some files) before now (NotARepository path) cause asked = (cause.0, refused (look_of files) (NotARepository path) (cause.1 refl))
+load_cause None before now (Limit place number) cause asked = (cause.0, tt)
+load_cause (Some files) before now (Limit place number) cause asked = (cause.0, refused (look_of files) (Limit place number) (cause.1 refl))
 
 passes_within : (told : Option FileMap) (new : Seen) → (IsTold told → passed (look_in told) nothing (load_steps (look_in told)) ≡ Ok new) → IfSome told (λ files. PassesWithin files new.found)
 unfolding look_in
@@ -79,26 +100,35 @@ finds (Some files) new went = λ seen passes.
     let same : new ≡ seen = cc in
     ap (λ (s : Seen). s.found) same
 
+folders_there : (told : Option FileMap) (folders : Folders) → (IsTold told → folders ≡ folders_of (look_in told)) → IfSome told (λ files. folders ≡ folders_of (look_of files))
+unfolding look_in
+folders_there None folders is = tt
+folders_there (Some files) folders is = is refl
+
 -- what a load tells, by what its reading tells
 module _ {before now : View} {start : Seen} (none : start ≡ nothing) where
-  pub repo_told : {new : Seen} (repo : Repo) → HasRead before now (λ look. load_steps look) (λ look. repo ≡ repository look) start new → IfSome before.told (λ files. loading (look_of files) ≡ Ok repo)
-  repo_told {new = new} repo one =
-      let here = subst (λ (s : Seen). HasRead before now (λ look. load_steps look) (λ look. repo ≡ repository look) s new) none one in
-      as_told before.told new repo here.passed here.value
+  pub repo_told : {new : Seen} (read : RepoRead) → HasRead before now (λ look. load_steps look) (λ look. IsRepoOf look read) start new → IfSome before.told (λ files. loading (look_of files) ≡ Ok read.repo)
+  repo_told {new = new} read one =
+      let here = subst (λ (s : Seen). HasRead before now (λ look. load_steps look) (λ look. IsRepoOf look read) s new) none one in
+      as_told before.told new read.repo here.passed (λ t. (here.value t).repo)
 
-  pub passes_told : {new : Seen} (repo : Repo) (found : ℕ) → found ≡ new.found → HasRead before now (λ look. load_steps look) (λ look. repo ≡ repository look) start new →
+  pub folders_told : {new : Seen} (read : RepoRead) → HasRead before now (λ look. load_steps look) (λ look. IsRepoOf look read) start new → IfSome before.told (λ files. read.folders ≡ folders_of (look_of files))
+  folders_told read one = folders_there before.told read.folders (λ t. (one.value t).folders)
+
+  pub passes_told : {new : Seen} (read : RepoRead) (found : ℕ) → found ≡ new.found → HasRead before now (λ look. load_steps look) (λ look. IsRepoOf look read) start new →
       IfSome before.told (λ files. PassesWithin files found)
-  passes_told {new = new} repo found is one =
-      let here = subst (λ (s : Seen). HasRead before now (λ look. load_steps look) (λ look. repo ≡ repository look) s new) none one in
+  passes_told {new = new} read found is one =
+      let here = subst (λ (s : Seen). HasRead before now (λ look. load_steps look) (λ look. IsRepoOf look read) s new) none one in
       subst (λ n. IfSome before.told (λ files. PassesWithin files n)) (sym is) (passes_within before.told new here.passed)
 
-  pub finds_told : {new : Seen} (repo : Repo) (found : ℕ) → found ≡ new.found → HasRead before now (λ look. load_steps look) (λ look. repo ≡ repository look) start new →
+  pub finds_told : {new : Seen} (read : RepoRead) (found : ℕ) → found ≡ new.found → HasRead before now (λ look. load_steps look) (λ look. IsRepoOf look read) start new →
       IfSome before.told (λ files. Finds files found)
-  finds_told {new = new} repo found is one =
-      let here = subst (λ (s : Seen). HasRead before now (λ look. load_steps look) (λ look. repo ≡ repository look) s new) none one in
+  finds_told {new = new} read found is one =
+      let here = subst (λ (s : Seen). HasRead before now (λ look. load_steps look) (λ look. IsRepoOf look read) s new) none one in
       subst (λ n. IfSome before.told (λ files. Finds files n)) (sym is) (finds before.told new here.passed)
 
   pub cause_told : (fault : LoadFault) → HasEnded before now (λ look. load_steps look) start fault → LoadCause before.told before.faults now.faults fault
   cause_told fault ended =
       load_cause before.told before.faults now.faults fault
       (subst (λ (s : Seen). Cause before.told before.faults now.faults (passed (look_in before.told) s (load_steps (look_in before.told))) fault) none ended.cause)
+      (subst (λ (s : Seen). IsOfPath (λ path. IsTold before.told → IsAsked (look_in before.told) s (load_steps (look_in before.told)) path) fault) none ended.asked)

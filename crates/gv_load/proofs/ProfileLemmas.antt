@@ -75,6 +75,7 @@ module _ {before now : View} {old : Seen} {lines : List DescLine} {r : Reached} 
         told = ended.told;
         around = ended.around;
         later = ended.later;
+        asked = tt;
         cause = (
           ap (λ (v : View). v.faults) one.same,
           λ t. passed-append (look_in before.told) old (steps_of (look_in before.told) (reached (look_in before.told) lines)) (stack_steps (dir_at (look_in before.told)) lines)

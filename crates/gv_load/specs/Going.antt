@@ -6,9 +6,9 @@ use Rattle.gv_load.specs.Directories.{dir_at, steps_of}
 use Rattle.gv_load.specs.Reaching.{Dirs}
 use Rattle.gv_load.specs.declared.reaching.Ahead.{Ahead}
 use Rattle.gv_load.specs.declared.reaching.Reached.{Reached}
-use Rattle.gv_reading.specs.Causes.{Cause, IsTold, Knows, View, look_in}
+use Rattle.gv_reading.specs.Causes.{Cause, IsOfPath, IsTold, Knows, View, look_in}
 use Rattle.gv_reading.specs.Reader.{Seen}
-use Rattle.gv_reading.specs.Reading.{passed}
+use Rattle.gv_reading.specs.Reading.{IsAsked, passed}
 use Rattle.gv_reading.specs.declared.faults.LoadFault.{LoadFault}
 
 -- With these parents still ahead all will be reached in the end. Where what was reached was closed but for these paths, it is closed now
@@ -34,6 +34,8 @@ pub record HasStopped (before now : View) (reached : Reached) (old : Seen) (whol
   pub later : before.faults ≤ now.faults
   pub cause : (start : Seen) → (IsTold before.told → passed (look_in before.told) start (steps_of (look_in before.told) reached.order) ≡ Ok old)
       → Cause before.told before.faults now.faults (passed (look_in before.told) start (steps_of (look_in before.told) (whole (dir_at (look_in before.told))))) fault
+  pub asked : (start : Seen) → (IsTold before.told → passed (look_in before.told) start (steps_of (look_in before.told) reached.order) ≡ Ok old)
+      → IsOfPath (λ path. IsTold before.told → IsAsked (look_in before.told) start (steps_of (look_in before.told) (whole (dir_at (look_in before.told)))) path) fault
 
 -- what reaching the paths comes to, where the whole of it is that, and these parents are ahead afterwards
 abbrev pub Reaches : {T : Type 0} → (T → View) → (before now : T) → (reached : Reached) → (paths : List (List ℕ)) → (whole : Dirs → List (List ℕ)) → (ahead : List Ahead)

@@ -19,13 +19,15 @@ use Rattle.gv_load.specs.Order.{reached}
 use Rattle.gv_profile.specs.Names.{desc_path}
 use Rattle.gv_load.specs.Paths.{categories_path, mask_path}
 use Rattle.gv_load.specs.Reaching.{reached_by}
-use Rattle.gv_load.specs.Repository.{body_of, in_package_order, members_in, pkg_of}
+use Rattle.gv_load.specs.Repository.{body_of, folders_of, in_package_order, members_in, pkg_of, repository}
 use Rattle.gv_load.specs.Stacks.{error_at, profile_at}
 use Rattle.gv_load.specs.declared.categories.Listing.{Listing}
 use Rattle.gv_load.specs.declared.freshness.PfKept.{PfKept}
 use Rattle.gv_load.specs.declared.lists.Lists.{Lists}
 use Rattle.gv_load.specs.declared.lists.TopPaths.{TopPaths}
+use Rattle.gv_load.specs.declared.loading.Folders.{Folders}
 use Rattle.gv_load.specs.declared.loading.Repo.{Repo}
+use Rattle.gv_load.specs.declared.loading.RepoRead.{RepoRead}
 use Rattle.gv_load.specs.declared.line_profiles.Profiled.{Profiled}
 use Rattle.gv_load.specs.declared.reaching.Reached.{Reached}
 
@@ -74,7 +76,13 @@ repo_with lists profiled kepts = record {
   bodies = map body_of (in_package_order (members_in kepts));
   profiles = profiled.profiles;
   lines = lists.lines;
-  categories = lists.categories;
-  directories = profiled.directories;
   notes = notes_with lists profiled kepts;
 }
+
+abbrev pub folders_with : Lists → Profiled → Folders
+folders_with lists profiled = record { categories = lists.categories; directories = profiled.directories }
+
+-- they are those that stand there
+pub record IsRepoOf (look : Look) (read : RepoRead) : Type 0 where
+  pub repo : read.repo ≡ repository look
+  pub folders : read.folders ≡ folders_of look

@@ -16,14 +16,14 @@ use Rattle.gv_load.specs.declared.reaching.Ahead.{Ahead}
 use Rattle.gv_load.specs.declared.reaching.Reached.{Reached}
 use Rattle.gv_load.specs.Ahead.{reached_after, ahead_of, dirs_with, KeepsDirs}
 use Rattle.gv_load.specs.Directories.{steps_of, dir_at, dir_steps}
-use Rattle.gv_reading.specs.Causes.{Cause, HasRead, View, IsTold, look_in}
+use Rattle.gv_reading.specs.Causes.{Cause, HasRead, IsOfPath, View, IsTold, look_in}
 use Rattle.gv_reading.specs.Reader.{Seen}
 use Rattle.gv_reading.specs.Look.{Look}
 use Rattle.gv_load.specs.Reaching.{Dirs, reach, reach_below, most_depth, paths_of, with_parents, from_line, reached_by}
 use Rattle.gv_profile.specs.Walking.{line_dir}
 use Rattle.gv_profile.specs.declared.desc.DescLine.{DescLine}
-use Rattle.gv_reading.specs.Reading.{Out, passed, and_then}
-use Rattle.gv_reading.specs.Passing.{passed-append, same_cause}
+use Rattle.gv_reading.specs.Reading.{IsAsked, Out, passed, and_then}
+use Rattle.gv_reading.specs.Passing.{asked_as, asked_behind, asked_first, passed-append, same_cause, same_path}
 use Rattle.gv_load.specs.ListLemmas.{dropped, has_last, nothing_dropped, same_bytes}
 
 -- ---- the last ones are gone to first
@@ -163,6 +163,45 @@ whole_begins told before now start part whole fault begins cause =
     ∙ passed-append look start (steps_of look part) (steps_of look begins.0)
     ∙ ap (λ (o : Out). and_then o (λ n. passed look n (steps_of look begins.0))) is) cause
 
+line_grows : (dirs : Dirs) (r : List (List ℕ)) (dir : Option (List ℕ)) → Begins r (from_line dirs r dir)
+line_grows dirs r None = same r
+line_grows dirs r (Some dir) = below_grows dirs 0 r dir
+
+pub lines_grow : (dirs : Dirs) (r : List (List ℕ)) (lines : List DescLine) → Begins r (reached_by dirs r lines)
+lines_grow dirs r [] = same r
+lines_grow dirs r (line ∷ lines) = through r (from_line dirs r (line_dir line)) _ (line_grows dirs r (line_dir line)) (lines_grow dirs (from_line dirs r (line_dir line)) lines)
+
+-- ---- the path of a fault
+module _ (told : Option FileMap) (start : Seen) where
+  pub asked_there : (old : Seen) (order whole : List (List ℕ)) (dir : List ℕ) (fault : LoadFault) → Begins (order ++ dir ∷ []) whole →
+      (IsTold told → passed (look_in told) start (steps_of (look_in told) order) ≡ Ok old) → IsOfPath (λ path. IsTold told → IsAsked (look_in told) old (dir_steps (look_in told) dir) path) fault →
+      IsOfPath (λ path. IsTold told → IsAsked (look_in told) start (steps_of (look_in told) whole) path) fault
+  asked_there old order whole dir fault begins so_far =
+      same_path fault (λ path asked t.
+      let look = look_in told in
+      asked_as look start _ _ path (ap (steps_of look) (begins.1 ∙ append_assoc order (dir ∷ []) begins.0) ∙ steps-append look order (dir ∷ begins.0))
+      (asked_behind look start old (steps_of look order) (steps_of look (dir ∷ begins.0)) path (so_far t) (asked_first look old (dir_steps look dir) (steps_of look begins.0) path (asked t))))
+
+  pub asked_whole : (a b : List (List ℕ)) (fault : LoadFault) → (IsTold told → b ≡ a) → IsOfPath (λ path. IsTold told → IsAsked (look_in told) start (steps_of (look_in told) a) path) fault →
+      IsOfPath (λ path. IsTold told → IsAsked (look_in told) start (steps_of (look_in told) b) path) fault
+  asked_whole a b fault same = same_path fault (λ path asked t. asked_as (look_in told) start _ _ path (ap (steps_of (look_in told)) (same t)) (asked t))
+
+  asked_begins : (part whole : List (List ℕ)) (fault : LoadFault) → Begins part whole → IsOfPath (λ path. IsTold told → IsAsked (look_in told) start (steps_of (look_in told) part) path) fault →
+      IsOfPath (λ path. IsTold told → IsAsked (look_in told) start (steps_of (look_in told) whole) path) fault
+  asked_begins part whole fault begins =
+      same_path fault (λ path asked t.
+      let look = look_in told in
+      asked_as look start _ _ path (ap (steps_of look) begins.1 ∙ steps-append look part begins.0) (asked_first look start (steps_of look part) (steps_of look begins.0) path (asked t)))
+
+  pub asked_line : (order : List (List ℕ)) (lines left behind : List DescLine) (line : DescLine) (fault : LoadFault) →
+      left ≡ line ∷ behind → (IsTold told → reached_by (dir_at (look_in told)) order left ≡ reached_by (dir_at (look_in told)) [] lines) →
+      IsOfPath (λ path. IsTold told → IsAsked (look_in told) start (steps_of (look_in told) (from_line (dir_at (look_in told)) order (line_dir line))) path) fault →
+      IsOfPath (λ path. IsTold told → IsAsked (look_in told) start (steps_of (look_in told) (reached_by (dir_at (look_in told)) [] lines)) path) fault
+  asked_line order lines left behind line fault next so_far asked =
+      let dirs = dir_at (look_in told) in
+      asked_whole (reached_by dirs order (line ∷ behind)) _ fault (λ t. sym (so_far t) ∙ ap (reached_by dirs order) next)
+      (asked_begins (from_line dirs order (line_dir line)) (reached_by dirs order (line ∷ behind)) fault (lines_grow dirs (from_line dirs order (line_dir line)) behind) asked)
+
 -- ---- what is kept is what the tree holds
 got : (dirs : DirMap) (dir path : List ℕ) (files : DirFiles) → get (insert dirs dir files) path ≡ cond (bytes_eq path dir) (Some files) (get dirs path)
 got dirs dir path files = get-insert nat_list_cmp_total dirs dir files path ∙ ap (λ b. cond b (Some files) (get dirs path)) (is_eq-slice_cmp path dir)
@@ -201,14 +240,6 @@ loop_refused there told is before mid now calm start part whole fault same cause
     same_whole told before now start (part (look_in told)) (whole (look_in told)) fault same
     (subst (λ (n : ℕ). Cause told n now (passed (look_in told) start (steps_of (look_in told) (part (look_in told)))) fault) calm
     (subst (λ (o : Option FileMap). Cause o mid now (passed (look_in o) start (steps_of (look_in o) (part (look_in o)))) fault) is cause))
-
-line_grows : (dirs : Dirs) (r : List (List ℕ)) (dir : Option (List ℕ)) → Begins r (from_line dirs r dir)
-line_grows dirs r None = same r
-line_grows dirs r (Some dir) = below_grows dirs 0 r dir
-
-pub lines_grow : (dirs : Dirs) (r : List (List ℕ)) (lines : List DescLine) → Begins r (reached_by dirs r lines)
-lines_grow dirs r [] = same r
-lines_grow dirs r (line ∷ lines) = through r (from_line dirs r (line_dir line)) _ (line_grows dirs r (line_dir line)) (lines_grow dirs (from_line dirs r (line_dir line)) lines)
 
 pub line_refused : (there told : Option FileMap) → there ≡ told → (before mid now : ℕ) → mid ≡ before → (start : Seen) (order : List (List ℕ)) (lines left behind : List DescLine) (line : DescLine) (fault : LoadFault) →
     left ≡ line ∷ behind → (IsTold told → reached_by (dir_at (look_in told)) order left ≡ reached_by (dir_at (look_in told)) [] lines) →

@@ -19,6 +19,7 @@ use Rattle.gv_load.specs.Freshness.{all_kept}
 use Rattle.gv_load.specs.declared.freshness.Kept.{Kept}
 use Rattle.gv_load.specs.declared.freshness.Kept.TheVariants.{Nothing, Missing, Orphan, Stale, Current}
 use Rattle.gv_load.specs.declared.freshness.PfKept.{PfKept}
+use Rattle.gv_load.specs.declared.loading.Folders.{Folders}
 use Rattle.gv_load.specs.declared.loading.Repo.{Repo}
 use Rattle.gv_load.specs.declared.members.Member.{Member}
 use Rattle.gv_reading.specs.Look.{Look}
@@ -81,7 +82,9 @@ repository look = record {
   bodies = map body_of (members look);
   profiles = filter_map (profile_at (dir_at look) (files_at look mask_path)) (desc_lines look);
   lines = desc_lines look;
-  categories = categories look;
-  directories = reached look (desc_lines look);
   notes = repository_notes look;
 }
+
+-- the folders of its packages and of its profiles
+unfoldable pub folders_of : Look → Folders
+folders_of look = record { categories = categories look; directories = reached look (desc_lines look) }

@@ -1,7 +1,7 @@
 -- Words of private contracts alone, no rule: the first line whose stack has too many visits.
 use Rattle.std.specs.Prelude.{◌≡◌, ℕ, Bool, true, false, List, [], ◌∷◌, Option, Some, None}
 use Rattle.std.specs.Option.{option_or}
-use Rattle.gv_profile.specs.Walking.{Look, stack_fault}
+use Rattle.gv_profile.specs.Walking.{Look, most_visits, stack_fault}
 use Rattle.gv_profile.specs.declared.desc.DescLine.{DescLine}
 use Rattle.gv_profile.specs.declared.faults.ProfileFault.{ProfileFault}
 use Rattle.gv_profile.specs.declared.faults.ProfileFault.TheVariants.{Cycle, MissingParent, MissingProfile, BadEapi, TooMany, NoMemory}
@@ -38,6 +38,6 @@ first_limit dirs (line ∷ lines) = option_or (limit_at dirs line) (first_limit 
 -- the fault is the first limit; want of memory says nothing
 abbrev pub LimitIs : Option (List ℕ) → LoadFault → Type 0
 LimitIs first faults.NoMemory = Unit {0}
-LimitIs first (faults.Limit place number) = (first ≡ Some place) × (number ≡ 4096)
+LimitIs first (faults.Limit place number) = (first ≡ Some place) × (number ≡ most_visits)
 LimitIs first (faults.Tree path) = ⊥
 LimitIs first (faults.NotARepository path) = ⊥

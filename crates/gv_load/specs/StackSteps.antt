@@ -29,12 +29,12 @@ stacks_pass look seen dirs (line ∷ lines) none = by (stack_fault dirs line) no
     by (Some NoMemory) is rest = rest is
     by (Some TooMany) is rest = cc
 
-pub stacks_refused : (look : looks.Look) (seen : Seen) (dirs : Look) (lines : List DescLine) (place : List ℕ) → first_limit dirs lines ≡ Some place → passed look seen (stack_steps dirs lines) ≡ Err (Limit place 4096)
+pub stacks_refused : (look : looks.Look) (seen : Seen) (dirs : Look) (lines : List DescLine) (place : List ℕ) → first_limit dirs lines ≡ Some place → passed look seen (stack_steps dirs lines) ≡ Err (Limit place most_visits)
 stacks_refused look seen dirs [] place some = cc
 stacks_refused look seen dirs (line ∷ lines) place some = by (stack_fault dirs line) some (stacks_refused look seen dirs lines place)
   where
-    by : (f : Option ProfileFault) → option_or (limit_of line f) (first_limit dirs lines) ≡ Some place → (first_limit dirs lines ≡ Some place → passed look seen (stack_steps dirs lines) ≡ Err (Limit place 4096)) →
-        passed look seen (bound (stack_place line.path) most_visits (is_too_many f) ∷ stack_steps dirs lines) ≡ Err (Limit place 4096)
+    by : (f : Option ProfileFault) → option_or (limit_of line f) (first_limit dirs lines) ≡ Some place → (first_limit dirs lines ≡ Some place → passed look seen (stack_steps dirs lines) ≡ Err (Limit place most_visits)) →
+        passed look seen (bound (stack_place line.path) most_visits (is_too_many f) ∷ stack_steps dirs lines) ≡ Err (Limit place most_visits)
     by None is rest = rest is
     by (Some (Cycle path n)) is rest = rest is
     by (Some (MissingParent path n)) is rest = rest is

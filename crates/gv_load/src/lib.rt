@@ -36,7 +36,7 @@ pub use entries::PfRead;
 pub use freshness::{Kept, PfKept, Why};
 pub use given::{Given, GivenRead, read_given};
 pub use gv_reading::LoadFault;
-pub use loading::{Loaded, Repo, load, load_counted};
+pub use loading::{Folders, Loaded, Repo, load, load_counted};
 pub use members::{Bodies, Member, Packages, compare};
 pub use paths::mask_path;
 pub use stacks::stack_limit;

@@ -6,12 +6,12 @@
 ghost use Rattle.std.specs.Prelude.{◌≡◌, ◌≤◌, Ok, length, IfOk, IfErr, IfSome, OnOk};
 ghost use Rattle.gv_reading.specs.Causes.{Knows, Reads, view};
 ghost use Rattle.gv_load.specs.Loading.{Finds, LoadCause, PassesWithin, loading};
-ghost use Rattle.gv_load.specs.Repository.{AreClassless, AreInPackageOrder, repository};
+ghost use Rattle.gv_load.specs.Repository.{AreClassless, AreInPackageOrder, folders_of};
 ghost use Rattle.gv_load.specs.Layout.{layout};
 ghost use Rattle.gv_reading.specs.Look.{look_of};
 ghost use Rattle.gv_load.specs.Order.{load_steps};
 ghost use Rattle.gv_load.specs.OwnLines.{HaveOwnLines};
-ghost use Rattle.gv_load.specs.PartsRead.{notes_with, repo_with, top_paths};
+ghost use Rattle.gv_load.specs.PartsRead.{IsRepoOf, folders_with, notes_with, repo_with, top_paths};
 
 use crate::freshness::PfsKept;
 use crate::layout::{Layout, dir_names};
@@ -38,10 +38,6 @@ pub struct Repo {
     pub profiles: Profiles,
     /// The lines of `profiles/profiles.desc` that count.
     pub lines: DescLines,
-    /// The categories, in byte order.
-    pub categories: Texts,
-    /// The paths that the lines reach by parents, in the order in which they are read.
-    pub directories: Texts,
     /// What is told of profiles and entries: bad lines, stacks with a fault, errors of current entries, and PFs that are
     /// stale, orphans or missing.
     pub notes: Reports,
@@ -57,17 +53,37 @@ impl Repo {
             bodies: self.bodies.copy(alloc)?,
             profiles: self.profiles.copy(alloc)?,
             lines: self.lines.copy(alloc)?,
-            categories: self.categories.copy(alloc)?,
-            directories: self.directories.copy(alloc)?,
             notes: self.notes.copy(alloc)?,
         })
     }
 }
 
-/// A repository, and how many files its load found.
+/// The folders of packages and of profiles.
+#[derive(Drop)]
+pub struct Folders {
+    /// The categories, in byte order.
+    pub categories: Texts,
+    /// The paths that the lines of `profiles/profiles.desc` reach by parents, in the order in which they are read.
+    pub directories: Texts,
+}
+
+impl Folders {
+    /// Equal ones.
+    pub fn copy(&self, alloc: Global) -> Result<Folders, NoMemory>
+        ensures { IfOk result (λ folders. folders ≡ self.now) }
+    {
+        Ok(Folders {
+            categories: self.categories.copy(alloc)?,
+            directories: self.directories.copy(alloc)?,
+        })
+    }
+}
+
+/// A repository, its folders, and how many files its load found.
 #[derive(Drop)]
 pub struct Loaded {
     pub repo: Repo,
+    pub folders: Folders,
     pub found: u64,
 }
 
@@ -78,6 +94,7 @@ impl Loaded {
     {
         Ok(Loaded {
             repo: self.repo.copy(alloc)?,
+            folders: self.folders.copy(alloc)?,
             found: self.found,
         })
     }
@@ -85,10 +102,10 @@ impl Loaded {
 
 /// The repository that stands in a tree, or the first refusal in reading order.
 ///
-/// `Tree` comes with the path of the call that failed, and only where the tree's count of faults rose; `NotARepository`
-/// where a list that has to be there is no file; `Limit` with the limit's number where it is passed: a path of more than
-/// 4,096 bytes that would be read or listed, a file of more than 16,777,216 bytes, a file after 400,000 that were found,
-/// and a stack of more than 4,096 visits.
+/// `Tree` comes with the path of the call that failed, and only where the tree's count of faults rose: by the clause it is a
+/// path at which a step asks, behind steps that pass. `NotARepository` comes where a list that has to be there is no file;
+/// `Limit` with the limit's number where it is passed: a path of more than 4,096 bytes that would be read or listed, a file
+/// of more than 16,777,216 bytes, a file after 400,000 that were found, and a stack of more than 4,096 visits.
 pub fn load<T: Tree>(alloc: Global, tree: &mut T) -> Result<Repo, LoadFault>
     ensures repo { IfOk result (λ repo. IfSome (T.files tree.old) (λ files. loading (look_of files) ≡ Ok repo)) }
     ensures bodies { IfOk result (λ repo. length repo.bodies ≡ length repo.pkgs) }
@@ -108,11 +125,12 @@ pub fn load<T: Tree>(alloc: Global, tree: &mut T) -> Result<Repo, LoadFault>
     }
 }
 
-/// The same, with exactly the number of files that were found.
+/// The same, with the folders that stand there and exactly the number of files that were found.
 pub fn load_counted<T: Tree>(alloc: Global, tree: &mut T) -> Result<Loaded, LoadFault>
     ensures repo { IfOk result (λ loaded. IfSome (T.files tree.old) (λ files. loading (look_of files) ≡ Ok loaded.repo)) }
     ensures found { IfOk result (λ loaded. IfSome (T.files tree.old) (λ files. PassesWithin files loaded.found)) }
     ensures exact { IfOk result (λ loaded. IfSome (T.files tree.old) (λ files. Finds files loaded.found)) }
+    ensures folders { IfOk result (λ loaded. IfSome (T.files tree.old) (λ files. loaded.folders ≡ folders_of (look_of files))) }
     ensures bodies { IfOk result (λ loaded. length loaded.repo.bodies ≡ length loaded.repo.pkgs) }
     ensures order { IfOk result (λ loaded. AreInPackageOrder loaded.repo.pkgs) }
     ensures own { IfOk result (λ loaded. HaveOwnLines loaded.repo.profiles) }
@@ -128,12 +146,20 @@ pub fn load_counted<T: Tree>(alloc: Global, tree: &mut T) -> Result<Loaded, Load
     let names = dir_names(alloc)?;
     let mut reader = Reader::new(alloc);
     match read_repo(alloc, &mut reader, tree, &paths, &names) {
-        Ok(repo) => Ok(Loaded {
-            repo,
+        Ok(read) => Ok(Loaded {
+            repo: read.repo,
+            folders: read.folders,
             found: reader.found(),
         }),
         Err(fault) => Err(fault),
     }
+}
+
+// A repository and its folders.
+#[derive(Drop)]
+struct RepoRead {
+    repo: Repo,
+    folders: Folders,
 }
 
 // Reads the lists, the profiles and the packages.
@@ -143,15 +169,15 @@ fn read_repo<T: Tree>(
     tree: &mut T,
     paths: &TopPaths,
     names: &Layout,
-) -> Result<Repo, LoadFault>
+) -> Result<RepoRead, LoadFault>
     requires knows { Knows (T.files tree.old) reader.old }
     requires paths { paths.now ≡ top_paths }
     requires names { names.now ≡ layout }
-    ensures reads { Reads (view T.files T.faults T.entered T.lent) tree.old tree.new (λ look. load_steps look) (λ look value. value ≡ repository look) reader.old reader.new result }
-    ensures bodies { IfOk result (λ repo. length repo.bodies ≡ length repo.pkgs) }
-    ensures order { IfOk result (λ repo. AreInPackageOrder repo.pkgs) }
-    ensures own { IfOk result (λ repo. HaveOwnLines repo.profiles) }
-    ensures classless { IfOk result (λ repo. AreClassless repo.notes) }
+    ensures reads { Reads (view T.files T.faults T.entered T.lent) tree.old tree.new (λ look. load_steps look) (λ look value. IsRepoOf look value) reader.old reader.new result }
+    ensures bodies { IfOk result (λ read. length read.repo.bodies ≡ length read.repo.pkgs) }
+    ensures order { IfOk result (λ read. AreInPackageOrder read.repo.pkgs) }
+    ensures own { IfOk result (λ read. HaveOwnLines read.repo.profiles) }
+    ensures classless { IfOk result (λ read. AreClassless read.repo.notes) }
 {
     let lists = read_lists(alloc, reader, tree, paths)?;
     let profiled = read_profiles(alloc, reader, tree, names, &lists.masks, &lists.lines)?;
@@ -165,23 +191,27 @@ fn repo_with(
     lists: Lists,
     profiled: Profiled,
     kepts: PfsKept,
-) -> Result<Repo, NoMemory>
-    ensures repo { IfOk result (λ repo. repo ≡ repo_with lists profiled kepts) }
-    ensures bodies { IfOk result (λ repo. length repo.bodies ≡ length repo.pkgs) }
-    ensures order { IfOk result (λ repo. AreInPackageOrder repo.pkgs) }
-    ensures classless { IfOk result (λ repo. AreClassless repo.notes) }
+) -> Result<RepoRead, NoMemory>
+    ensures repo { IfOk result (λ read. read.repo ≡ repo_with lists profiled kepts) }
+    ensures folders { IfOk result (λ read. read.folders ≡ folders_with lists profiled) }
+    ensures bodies { IfOk result (λ read. length read.repo.bodies ≡ length read.repo.pkgs) }
+    ensures order { IfOk result (λ read. AreInPackageOrder read.repo.pkgs) }
+    ensures classless { IfOk result (λ read. AreClassless read.repo.notes) }
 {
     let notes = notes_with(alloc, &lists, &profiled, &kepts)?;
     let packages = packages_in(alloc, kepts)?;
-    Ok(Repo {
+    let repo = Repo {
         pkgs: packages.pkgs,
         bodies: packages.bodies,
         profiles: profiled.profiles,
         lines: lists.lines,
+        notes,
+    };
+    let folders = Folders {
         categories: lists.categories,
         directories: profiled.directories,
-        notes,
-    })
+    };
+    Ok(RepoRead { repo, folders })
 }
 
 fn notes_with(

@@ -1,4 +1,4 @@
-//! The stacks of all lines, folded line by line. A line costs what folding its stack costs.
+//! The stacks of all lines, folded line by line. A line costs what folding its stack costs; what several stacks share is parsed once.
 ghost use Rattle.std.specs.Prelude.{◌≡◌, ◌++◌, ◌∷◌, [], Some, None, false, filter_map, option_to_list, IfOk, IfErr, OnOk};
 ghost use Rattle.std.specs.FinMap as finite;
 ghost use Rattle.gv_profile.specs.Names.{desc_path};
@@ -9,10 +9,14 @@ ghost use Rattle.gv_load.specs.StackLimits.{is_no_memory, limit_of, limit_at, fi
 use gv_base::{NoMemory, Text};
 use gv_facts::{Profile, Profiles};
 use gv_profile::{
-    DescLine, DescLines, Dirs, PlaceNote, PlaceNotes, ProfileFault, Room, desc_path, fold_within,
+    DescLine, DescLines, Dirs, PlaceNote, PlaceNotes, ProfileFault, Room, Sources, desc_path,
+    fold_within,
 };
 use gv_reading::{LoadFault, NamedFiles, within};
 use std::alloc::Global;
+
+// How many visits a stack may have.
+const MAX_VISITS: u64 = 4096;
 
 /// The profiles of the lines whose stack has no fault, and the places of the faults of the others.
 #[derive(Drop)]
@@ -47,9 +51,10 @@ pub(crate) fn fold_lines(
         profiles: Profiles::new(alloc),
         errors: PlaceNotes::new(alloc),
     };
+    let mut sources = Sources::of(alloc, dirs, first);
     let mut room = Room::new();
     for line in lines.items() {
-        folds = match fold_line(alloc, dirs, first, line, folds, &mut room) {
+        folds = match fold_line(alloc, &mut sources, line, folds, &mut room) {
             Ok(folds) => folds,
             Err(fault) => return Err(fault),
         };
@@ -90,7 +95,7 @@ pub fn stack_limit(alloc: Global, word: &Text) -> LoadFault
     match stack_place(alloc, word) {
         Ok(place) => LoadFault::Limit {
             place,
-            number: 4096,
+            number: MAX_VISITS,
         },
         Err(_) => LoadFault::NoMemory,
     }
@@ -172,18 +177,18 @@ fn with_fault(
 
 fn fold_line(
     alloc: Global,
-    dirs: &Dirs,
-    first: &NamedFiles,
+    sources: &mut Sources<'_>,
     line: &DescLine,
     folds: Folds,
     room: &mut Room,
 ) -> Result<Folds, LoadFault>
-    ensures profiles { IfOk result (λ f. f.profiles ≡ folds.profiles ++ option_to_list (profile_at (finite.get dirs.now) first.now line.now)) }
-    ensures errors { IfOk result (λ f. f.errors ≡ folds.errors ++ option_to_list (error_at (finite.get dirs.now) line.now)) }
-    ensures passed { OnOk result (limit_at (finite.get dirs.now) line.now ≡ None) }
-    ensures cause { IfErr result (LimitIs (limit_at (finite.get dirs.now) line.now)) }
+    ensures same { sources.new ≡ sources.old }
+    ensures profiles { IfOk result (λ f. f.profiles ≡ folds.profiles ++ option_to_list (profile_at (finite.get sources.old.dirs) sources.old.first line.now)) }
+    ensures errors { IfOk result (λ f. f.errors ≡ folds.errors ++ option_to_list (error_at (finite.get sources.old.dirs) line.now)) }
+    ensures passed { OnOk result (limit_at (finite.get sources.old.dirs) line.now ≡ None) }
+    ensures cause { IfErr result (LimitIs (limit_at (finite.get sources.old.dirs) line.now)) }
 {
-    match fold_within(alloc, dirs, line, first, room) {
+    match fold_within(alloc, sources, line, room) {
         Ok(profile) => match with_profile(folds, profile) {
             Ok(folds) => Ok(folds),
             Err(_) => Err(LoadFault::NoMemory),

@@ -28,7 +28,7 @@ folder_err (Some m) folder fault h t = h
 
 pub folder_cause : (told : Option FileMap) (before now : ℕ) (folder : List ℕ) (fault : LoadFault) → LoadCause (folder_told told folder) before now fault → LoadEnds told before now (λ files. master_loading files folder) fault
 folder_cause told before now folder load.NoMemory h = tt
-folder_cause told before now folder (load.Tree path) h = h
+folder_cause told before now folder (load.Tree path) h = h.0
 folder_cause told before now folder (load.NotARepository path) h = (h.0, folder_err told folder (load.NotARepository path) h.1)
 folder_cause told before now folder (load.Limit place number) h = (h.0, folder_err told folder (load.Limit place number) h.1)
 
@@ -44,7 +44,7 @@ layers_err (Some m) layers fault h t = h
 
 pub layers_cause : (told : Option FileMap) (before now : ℕ) (layers : Layers) (fault : LoadFault) → LoadCause (layered_told told layers) before now fault → LoadEnds told before now (λ files. layered_loading files layers) fault
 layers_cause told before now layers load.NoMemory h = tt
-layers_cause told before now layers (load.Tree path) h = h
+layers_cause told before now layers (load.Tree path) h = h.0
 layers_cause told before now layers (load.NotARepository path) h = (h.0, layers_err told layers (load.NotARepository path) h.1)
 layers_cause told before now layers (load.Limit place number) h = (h.0, layers_err told layers (load.Limit place number) h.1)
 

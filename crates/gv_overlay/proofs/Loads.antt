@@ -138,8 +138,6 @@ module _ (told : Option FileMap) (name : List ℕ) where
               own_are = put.own_are;
               profiles_are = put.profiles_are;
               lines_are = put.lines_are;
-              categories_are = put.categories_are;
-              directories_are = put.directories_are;
               no_notes = put.no_notes;
               notes_are = put.notes_are;
             };

@@ -46,8 +46,6 @@ put_one masters own a b p q = λ i. record {
     bodies = (p.bodies_are ∙ (ap (map body_of) same ∙ sym q.bodies_are)) i;
     profiles = (p.profiles_are ∙ sym q.profiles_are) i;
     lines = (p.lines_are ∙ sym q.lines_are) i;
-    categories = (p.categories_are ∙ sym q.categories_are) i;
-    directories = (p.directories_are ∙ sym q.directories_are) i;
     notes = (p.no_notes ∙ sym q.no_notes) i;
   };
   own = (p.own_are ∙ (ap (map own_of) same ∙ sym q.own_are)) i;

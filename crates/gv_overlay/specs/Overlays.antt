@@ -90,8 +90,6 @@ pub record IsCombined (masters : List Repo) (own : Repo) (over : Overlay) : Type
   pub own_are : over.own ≡ map own_of entries
   pub profiles_are : over.repo.profiles ≡ own.profiles
   pub lines_are : over.repo.lines ≡ own.lines
-  pub categories_are : over.repo.categories ≡ own.categories
-  pub directories_are : over.repo.directories ≡ own.directories
   pub no_notes : over.repo.notes ≡ []
   pub notes_are : over.notes ≡ filter is_of_entry own.notes
 

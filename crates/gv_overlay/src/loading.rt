@@ -118,8 +118,6 @@ fn combined(alloc: Global, mut entries: Vec<Entry>, own: Repo) -> Result<Overlay
         bodies,
         profiles,
         lines,
-        categories,
-        directories,
         notes,
     } = own;
     add_entries(&mut entries, pkgs, bodies, true)?;
@@ -132,8 +130,6 @@ fn combined(alloc: Global, mut entries: Vec<Entry>, own: Repo) -> Result<Overlay
             bodies: parts.bodies,
             profiles,
             lines,
-            categories,
-            directories,
             notes: Reports::new(alloc),
         },
         own: parts.own,

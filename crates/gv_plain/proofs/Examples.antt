@@ -58,8 +58,6 @@ repo_of live body = record {
   bodies = body ∷ [];
   profiles = profile_of 1 (codes "amd64") ∷ profile_of 2 (codes "x86") ∷ [];
   lines = [];
-  categories = codes "app" ∷ [];
-  directories = [];
   notes = [];
 }
 

@@ -18,7 +18,7 @@ use Rattle.gv_load.specs.Closed.{IsClosed}
 use Rattle.gv_load.specs.Directories.{dir_at}
 use Rattle.gv_reading.specs.NamedFiles.{files_at}
 use Rattle.gv_reading.specs.Look.{Look, look_of, text_at}
-use Rattle.gv_load.specs.Repository.{AreClassless, members, pkg_of, repository}
+use Rattle.gv_load.specs.Repository.{AreClassless, folders_of, members, pkg_of, repository}
 use Rattle.gv_reload.specs.EntryEdits.{DifferIn, EntriesLaw, HasEditedName, is_about, is_edited, is_entry, is_in_metadata, is_other, members_of}
 use Rattle.gv_load.specs.Freshness.{all_kept}
 use Rattle.gv_load.specs.Loading.{if_passed, loading}
@@ -28,6 +28,7 @@ use Rattle.gv_load.specs.Paths.{categories_path, mask_path}
 use Rattle.gv_reading.specs.Reader.{Seen, nothing}
 use Rattle.gv_reading.specs.Reading.{Out, passed}
 use Rattle.gv_load.specs.Stacks.{error_at, profile_at}
+use Rattle.gv_load.specs.declared.loading.Folders.{Folders}
 use Rattle.gv_load.specs.declared.loading.Repo.{Repo}
 use Rattle.gv_reload.proofs.EntryKept.{counts, told_same}
 use Rattle.gv_reload.proofs.EntryMembers.{all_are_of, all_names, members_same, notes_same, together_again}
@@ -71,9 +72,16 @@ pub repo_parts : (look : Look) → (members_of (repository look) ≡ members loo
 unfolding repository
 repo_parts look = (together_again (members look), (refl, refl))
 
-pub repo_rest : (look : Look) → ((repository look).lines ≡ desc_lines look) × (((repository look).categories ≡ categories look) × (((repository look).directories ≡ reached look (desc_lines look)) × ((repository look).profiles ≡ filter_map (profile_at (dir_at look) (files_at look mask_path)) (desc_lines look))))
+repo_rest : (look : Look) → ((repository look).lines ≡ desc_lines look) × ((repository look).profiles ≡ filter_map (profile_at (dir_at look) (files_at look mask_path)) (desc_lines look))
 unfolding repository
-repo_rest look = (refl, (refl, (refl, refl)))
+repo_rest look = (refl, refl)
+
+abbrev pub folders_with : List (List ℕ) → List (List ℕ) → Folders
+folders_with categories directories = record { categories = categories; directories = directories }
+
+pub folders_are : (look : Look) → folders_of look ≡ folders_with (categories look) (reached look (desc_lines look))
+unfolding folders_of
+folders_are look = refl
 
 -- ---- the law
 module _ (order : InOrderLaw) (division : (bytes : List ℕ) → IsDivided bytes) (paths : List (List ℕ)) (files files' : FileMap)
@@ -133,10 +141,8 @@ module _ (order : InOrderLaw) (division : (bytes : List ℕ) → IsDivided bytes
       let old_rest = repo_rest (look_of files) in
       let new_rest = repo_rest (look_of files') in
       record {
-        categories = new_rest.1.0 ∙ categories_same order (categories (look_of files)) paths are files files' same ∙ sym old_rest.1.0;
-        directories = new_rest.1.1.0 ∙ reached_same order (categories (look_of files)) paths are files files' same outside ∙ sym old_rest.1.1.0;
         lines = new_rest.0 ∙ lines_same order (categories (look_of files)) paths are files files' same ∙ sym old_rest.0;
-        profiles = new_rest.1.1.1 ∙ profiles_are ∙ sym old_rest.1.1.1;
+        profiles = new_rest.1 ∙ profiles_are ∙ sym old_rest.1;
         members = ap (filter (is_other paths)) new.0 ∙ members_are ∙ sym (ap (filter (is_other paths)) old.0);
         notes = λ s other. ap (filter (is_about s)) new.1.0 ∙ notes_kept s other ∙ sym (ap (filter (is_about s)) old.1.0);
         old_names = subst (AllByRecursion (HasEditedName paths)) (sym old.1.1) (all_names paths (all_kept (look_of files) (categories (look_of files))) (all_are_of (look_of files) (categories (look_of files)) valid));
@@ -144,12 +150,22 @@ module _ (order : InOrderLaw) (division : (bytes : List ℕ) → IsDivided bytes
         classless = subst AreClassless (sym new.1.0) (all_classless (look_of files'));
       }
 
+  same_folders : folders_of (look_of files') ≡ folders_of (look_of files)
+  same_folders =
+      folders_are (look_of files')
+      ∙ ap (λ (all : List (List ℕ)). folders_with all (reached (look_of files') (desc_lines (look_of files')))) (categories_same order (categories (look_of files)) paths are files files' same)
+      ∙ ap (folders_with (categories (look_of files))) (reached_same order (categories (look_of files)) paths are files files' same outside)
+      ∙ sym (folders_are (look_of files))
+
 pub entries : InOrderLaw → ((bytes : List ℕ) → IsDivided bytes) → EntriesLaw
 entries order division paths files files' old new are outside same loads loads' =
     let was = passed_so (look_of files) old loads in
     let is = passed_so (look_of files') new loads' in
-    let parts = repo_rest (look_of files) in
-    let known : old.categories ≡ categories (look_of files) = ap (λ (r : Repo). r.categories) was.0 ∙ parts.1.0 in
-    let dirs : old.directories ≡ reached (look_of files) (desc_lines (look_of files)) = ap (λ (r : Repo). r.directories) was.0 ∙ parts.1.1.0 in
-    let both = comes order division paths files files' (sym (ap (λ (cs : List (List ℕ)). list_all (is_entry cs) paths) known) ∙ are) (sym (ap (list_any is_in_metadata) dirs) ∙ outside) same (loaded_closed (look_of files) was.1.0 was.1.1) in
-    subst (λ (r : Repo). DifferIn paths r new) (sym was.0) (subst (λ (r : Repo). DifferIn paths (repository (look_of files)) r) (sym is.0) both)
+    let known = folders_are (look_of files) in
+    let these : list_all (is_entry (categories (look_of files))) paths ≡ true = sym (ap (λ (f : Folders). list_all (is_entry f.categories) paths) known) ∙ are in
+    let apart : list_any is_in_metadata (reached (look_of files) (desc_lines (look_of files))) ≡ false = sym (ap (λ (f : Folders). list_any is_in_metadata f.directories) known) ∙ outside in
+    let closed = loaded_closed (look_of files) was.1.0 was.1.1 in
+    let both = comes order division paths files files' these apart same closed in (
+      subst (λ (r : Repo). DifferIn paths r new) (sym was.0) (subst (λ (r : Repo). DifferIn paths (repository (look_of files)) r) (sym is.0) both),
+      same_folders order division paths files files' these apart same closed,
+    )

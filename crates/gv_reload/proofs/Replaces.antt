@@ -182,8 +182,6 @@ module _ (paths : List (List ℕ)) where
         profiles = old.profiles;
         lines = old.lines;
         notes = filter is_rest before.notes ++ edited_notes paths new.notes;
-        categories = old.categories;
-        directories = old.directories;
       }
 
       same_members : members_of old ≡ members_of before
@@ -191,7 +189,7 @@ module _ (paths : List (List ℕ)) where
 
       part : IsPartOf paths (replaced paths old new) whole
       part = record {
-        but = record { pkgs = refl; bodies = refl; profiles = refl; lines = refl; categories = refl; directories = refl };
+        but = record { pkgs = refl; bodies = refl; profiles = refl; lines = refl };
         edited = passes_all is_noted new.notes;
         notes = edited_alone;
       }
@@ -216,8 +214,6 @@ module _ (paths : List (List ℕ)) where
       differ a old_names new_names was is = record {
         profiles = sym but.profiles;
         lines = sym but.lines;
-        categories = sym but.categories;
-        directories = sym but.directories;
         members = members_stay a;
         notes = others_alone;
         classless = both (filter is_rest before.notes) (edited_notes paths new.notes) (some_classless is_rest before.notes was) (some_classless is_noted new.notes is);
@@ -250,8 +246,6 @@ module _ (paths : List (List ℕ)) where
           bodies = sym (ap (map body_of) (it_is_new a b both) ∙ bodies_of new.pkgs new.bodies many);
           profiles = both.profiles ∙ but.profiles;
           lines = both.lines ∙ but.lines;
-          categories = both.categories ∙ but.categories;
-          directories = both.directories ∙ but.directories;
         };
         edited = passes_all is_noted new.notes;
         notes = λ s is. sym (filter_within (is_about s) is_noted new.notes (λ r e. sym (about paths s r e) ∙ is));
@@ -273,8 +267,6 @@ module _ (paths : List (List ℕ)) where
               bodies = it.but.bodies ∙ sym (ap (map body_of) them);
               profiles = it.but.profiles;
               lines = it.but.lines;
-              categories = it.but.categories;
-              directories = it.but.directories;
             };
             edited = passes_all is_noted small.notes;
             notes = λ s is. noted s is ∙ sym (filter_within (is_about s) is_noted small.notes (λ r e. sym (about paths s r e) ∙ is));

@@ -25,18 +25,20 @@ use Rattle.gv_load.specs.Paths.{categories_path}
 use Rattle.gv_reading.specs.Reader.{Seen, nothing}
 use Rattle.gv_reading.specs.Reading.{Out, most_files, passed}
 use Rattle.gv_reload.specs.Replacing.{is_of_edited, replaced}
-use Rattle.gv_load.specs.Repository.{AreClassless, AreInPackageOrder, in_package_order, members, members_in, repository}
+use Rattle.gv_load.specs.Repository.{AreClassless, AreInPackageOrder, folders_of, in_package_order, members, members_in, repository}
 use Rattle.gv_reload.specs.Rereading.{HasRoom, IsPutTogether, IsReread, IsRereadOf, IsUnclear, IsUntold, TellsWhole, UnclearCause, UntoldCause, edited_kept, edited_steps, is_refused, read_of, small}
 use Rattle.gv_load.specs.Stacks.{error_at}
 use Rattle.gv_load.specs.declared.given.GivenRead.{GivenRead}
 use Rattle.gv_reading.specs.declared.faults.LoadFault.{LoadFault}
 use Rattle.gv_reading.specs.declared.faults.LoadFault.TheVariants.{Limit, NotARepository}
+use Rattle.gv_load.specs.declared.loading.Folders.{Folders}
+use Rattle.gv_load.specs.declared.loading.Loaded.{Loaded}
 use Rattle.gv_load.specs.declared.loading.Repo.{Repo}
 use Rattle.gv_reload.specs.declared.rereading.Reread.{Reread}
 use Rattle.gv_reload.specs.declared.rereading.Reread.TheVariants.{Done, Unclear}
 use Rattle.gv_reload.proofs.EditedKept.{edited_are_of, members_alike, notes_alike, places_out, told_alike}
 use Rattle.gv_reload.proofs.EditedPfs.{fits_files, more_is, paths_are, paths_of, same_paths}
-use Rattle.gv_reload.proofs.EntriesLaw.{entries, notes_are, passed_so, places, repo_parts, repo_rest}
+use Rattle.gv_reload.proofs.EntriesLaw.{entries, folders_are, notes_are, places, repo_parts}
 use Rattle.gv_reload.proofs.EntriesPass.{entries_pass}
 use Rattle.gv_reload.proofs.EntryMembers.{all_are_of, together_again}
 use Rattle.gv_load.specs.MemberLemmas.{all_ascend, pkgs_ascend}
@@ -83,107 +85,122 @@ module _ (order : InOrderLaw) (division : (bytes : List ℕ) → IsDivided bytes
       ∙ ap (λ (ds : List (List ℕ)). filter (is_about s) (flat_map pf_notes (all_kept (look_of files) ds))) known
       ∙ notes_alike paths s edited (all_kept (look_of files) cs) (edited_kept (look_of files) paths cs) (told_alike order division cs paths are valid files)
 
+-- ---- what is put together
+abbrev put_to : Repo → Folders → ℕ → Loaded
+put_to repo folders found = record { repo = repo; folders = folders; found = found }
+
+made_of : (loaded : Loaded) (folders : Folders) (repo : Repo) → loaded.repo ≡ repo → loaded.folders ≡ folders → loaded ≡ put_to repo folders loaded.found
+made_of loaded folders repo is same = ap (λ (r : Repo). put_to r loaded.folders loaded.found) is ∙ ap (λ (f : Folders). put_to repo f loaded.found) same
+
 -- ---- the whole one
-module _ (order : InOrderLaw) (division : (bytes : List ℕ) → IsDivided bytes) (paths : List (List ℕ)) (old : Repo) (found now : ℕ) (a : AreInPackageOrder old.pkgs) (are : list_all (is_entry old.categories) paths ≡ true)
-    (files files' : FileMap) (before : Repo) (but : IsAllBut old before) (loaded : loading (look_of files) ≡ Ok before) (within : PassesWithin files found)
-    (outside : list_any is_in_metadata old.directories ≡ false) (same : AreAlikeBut paths files files') (seen : Seen) (passes : passed (look_of files') nothing (edited_steps (look_of files') paths old.categories) ≡ Ok seen)
-    (room : HasRoom old found (read_of (look_of files') paths old.categories).more now) where
-  valid : list_all is_category old.categories ≡ true
+module _ (order : InOrderLaw) (division : (bytes : List ℕ) → IsDivided bytes) (paths : List (List ℕ)) (old : Loaded) (now : ℕ) (a : AreInPackageOrder old.repo.pkgs) (are : list_all (is_entry old.folders.categories) paths ≡ true)
+    (files files' : FileMap) (before : Repo) (but : IsAllBut old.repo before) (loaded : loading (look_of files) ≡ Ok before) (folders : old.folders ≡ folders_of (look_of files))
+    (within : PassesWithin files old.found) (outside : list_any is_in_metadata old.folders.directories ≡ false) (same : AreAlikeBut paths files files') (seen : Seen) (passes : passed (look_of files') nothing (edited_steps (look_of files') paths old.folders.categories) ≡ Ok seen)
+    (room : HasRoom old (read_of (look_of files') paths old.folders.categories).more now) where
+  were : folders_of (look_of files) ≡ old.folders
+  were = sym folders
+
+  valid : list_all is_category old.folders.categories ≡ true
   valid =
-      let is : old.categories ≡ categories (look_of files) = sym but.categories ∙ ap (λ (r : Repo). r.categories) (passed_so (look_of files) before loaded).0 ∙ (repo_rest (look_of files)).1.0 in
+      let is : old.folders.categories ≡ categories (look_of files) = ap (λ (f : Folders). f.categories) (folders ∙ folders_are (look_of files)) in
       ap (list_all is_category) is ∙ all_categories order (text_at (look_of files) categories_path)
 
-  still_outside : list_any is_in_metadata before.directories ≡ false
-  still_outside = ap (list_any is_in_metadata) but.directories ∙ outside
+  still_outside : list_any is_in_metadata (folders_of (look_of files)).directories ≡ false
+  still_outside = ap (λ (f : Folders). list_any is_in_metadata f.directories) were ∙ outside
 
-  more : found + most_more (look_of files') (paths_of paths old.categories) ≡ now
-  more = ap (λ n. found + n) (more_is (look_of files') paths old.categories valid) ∙ sym room.is
+  more : old.found + most_more (look_of files') (paths_of paths old.folders.categories) ≡ now
+  more = ap (λ n. old.found + n) (more_is (look_of files') paths old.folders.categories valid) ∙ sym room.is
 
   whole_passes : PassesWithin files' now
   whole_passes =
-      let ps = paths_of paths old.categories in
+      let ps = paths_of paths old.folders.categories in
       subst (PassesWithin files') more
-      (entries_pass order division ps files files' before found
-      (ap (λ (ds : List (List ℕ)). list_all (is_entry ds) ps) but.categories ∙ paths_are order old.categories paths are valid)
-      still_outside (ap (λ (ds : List (List ℕ)). has_text ds (codes "metadata")) but.categories ∙ room.apart)
-      (λ path other. same path (sym (same_paths order old.categories paths are valid path) ∙ other)) loaded within
-      (subst (λ (ds : List (List ℕ)). FitsFiles ds ps (look_of files) (look_of files')) (sym but.categories) (fits_files order (look_of files') old.categories paths are valid seen passes (look_of files)))
+      (entries_pass order division ps files files' old.found
+      (ap (λ (f : Folders). list_all (is_entry f.categories) ps) were ∙ paths_are order old.folders.categories paths are valid)
+      still_outside (ap (λ (f : Folders). has_text f.categories (codes "metadata")) were ∙ room.apart)
+      (λ path other. same path (sym (same_paths order old.folders.categories paths are valid path) ∙ other)) within
+      (subst (λ (f : Folders). FitsFiles f.categories ps (look_of files) (look_of files')) folders (fits_files order (look_of files') old.folders.categories paths are valid seen passes (look_of files)))
       (subst (λ n. n ≤ most_files) (sym more) room.room))
 
-  whole_differs : DifferIn paths before (repository (look_of files'))
+  whole_differs : DifferIn paths before (repository (look_of files')) × (folders_of (look_of files') ≡ folders_of (look_of files))
   whole_differs =
-      entries order division paths files files' before (repository (look_of files')) (ap (λ (ds : List (List ℕ)). list_all (is_entry ds) paths) but.categories ∙ are) still_outside same loaded whole_passes.loads
+      entries order division paths files files' before (repository (look_of files')) (ap (λ (f : Folders). list_all (is_entry f.categories) paths) were ∙ are) still_outside same loaded whole_passes.loads
 
-  known : categories (look_of files') ≡ old.categories
-  known = sym (repo_rest (look_of files')).1.0 ∙ whole_differs.categories ∙ but.categories
+  stay : folders_of (look_of files') ≡ old.folders
+  stay = whole_differs.1 ∙ were
 
-  pub tells_whole : TellsWhole paths before (replaced paths old (small (read_of (look_of files') paths old.categories))) files' now
+  known : categories (look_of files') ≡ old.folders.categories
+  known = ap (λ (f : Folders). f.categories) (sym (folders_are (look_of files')) ∙ stay)
+
+  pub tells_whole : TellsWhole paths before (put_to (replaced paths old.repo (small (read_of (look_of files') paths old.folders.categories))) old.folders now) files'
   tells_whole = record {
     whole = repository (look_of files');
     loads = whole_passes.loads;
-    part = part_so paths old (repository (look_of files')) before but (small (read_of (look_of files') paths old.categories))
-        (members_are order division old.categories paths are valid files' known) (noted_so order division old.categories paths are valid files' known)
-        (part_of_new paths old (repository (look_of files')) before but a (new_order (look_of files')) (new_bodies (look_of files')) whole_differs);
-    differ = whole_differs;
+    part = part_so paths old.repo (repository (look_of files')) before but (small (read_of (look_of files') paths old.folders.categories))
+        (members_are order division old.folders.categories paths are valid files' known) (noted_so order division old.folders.categories paths are valid files' known)
+        (part_of_new paths old.repo (repository (look_of files')) before but a (new_order (look_of files')) (new_bodies (look_of files')) whole_differs.0);
+    differ = whole_differs.0;
+    folders = sym stay;
     passes = whole_passes;
   }
 
 -- ---- what comes of the reading
-module _ (order : InOrderLaw) (division : (bytes : List ℕ) → IsDivided bytes) (paths : List (List ℕ)) (old : Repo) (found : ℕ) (a : AreInPackageOrder old.pkgs) (are : list_all (is_entry old.categories) paths ≡ true) where
+module _ (order : InOrderLaw) (division : (bytes : List ℕ) → IsDivided bytes) (paths : List (List ℕ)) (old : Loaded) (a : AreInPackageOrder old.repo.pkgs) (are : list_all (is_entry old.folders.categories) paths ≡ true) where
   tells_told : (told : Option FileMap) (start seen : Seen) (read : GivenRead) (now : ℕ) → start ≡ nothing
-      → (IsTold told → passed (look_in told) start (edited_steps (look_in told) paths old.categories) ≡ Ok seen)
-      → (IsTold told → read ≡ read_of (look_in told) paths old.categories)
-      → HasRoom old found read.more now
-      → (files files' : FileMap) (before : Repo) → told ≡ Some files' → IsAllBut old before → loading (look_of files) ≡ Ok before
-      → PassesWithin files found → list_any is_in_metadata old.directories ≡ false → AreAlikeBut paths files files'
-      → TellsWhole paths before (replaced paths old (small read)) files' now
+      → (IsTold told → passed (look_in told) start (edited_steps (look_in told) paths old.folders.categories) ≡ Ok seen)
+      → (IsTold told → read ≡ read_of (look_in told) paths old.folders.categories)
+      → HasRoom old read.more now
+      → (files files' : FileMap) (before : Repo) → told ≡ Some files' → IsAllBut old.repo before → loading (look_of files) ≡ Ok before
+      → old.folders ≡ folders_of (look_of files) → PassesWithin files old.found → list_any is_in_metadata old.folders.directories ≡ false → AreAlikeBut paths files files'
+      → TellsWhole paths before (put_to (replaced paths old.repo (small read)) old.folders now) files'
   unfolding look_in
-  tells_told None start seen read now none passes is room files files' before e but loaded within outside same = cc
-  tells_told (Some told) start seen read now none passes is room files files' before e but loaded within outside same =
+  tells_told None start seen read now none passes is room files files' before e but loaded folders within outside same = cc
+  tells_told (Some told) start seen read now none passes is room files files' before e but loaded folders within outside same =
       let this : told ≡ files' = cc in
       let read_is = is refl in
       let it =
-      tells_whole order division paths old found now a are files told before but loaded within outside (subst (AreAlikeBut paths files) (sym this) same) seen
-      (sym (ap (λ (s : Seen). passed (look_of told) s (edited_steps (look_of told) paths old.categories)) none) ∙ passes refl)
-      (subst (λ (r : GivenRead). HasRoom old found r.more now) read_is room) in
-      subst (λ (m : FileMap). TellsWhole paths before (replaced paths old (small read)) m now) this
-      (subst (λ (r : GivenRead). TellsWhole paths before (replaced paths old (small r)) told now) (sym read_is) it)
+      tells_whole order division paths old now a are files told before but loaded folders within outside (subst (AreAlikeBut paths files) (sym this) same) seen
+      (sym (ap (λ (s : Seen). passed (look_of told) s (edited_steps (look_of told) paths old.folders.categories)) none) ∙ passes refl)
+      (subst (λ (r : GivenRead). HasRoom old r.more now) read_is room) in
+      subst (λ (m : FileMap). TellsWhole paths before (put_to (replaced paths old.repo (small read)) old.folders now) m) this
+      (subst (λ (r : GivenRead). TellsWhole paths before (put_to (replaced paths old.repo (small r)) old.folders now) told) (sym read_is) it)
 
   pub reread_of : {before now : View} {start seen : Seen} (those : List (List ℕ)) (read : GivenRead) → those ≡ paths → start ≡ nothing → AreClassless read.notes
-      → HasRead before now (λ look. edited_steps look those old.categories) (λ look. read ≡ read_of look those old.categories) start seen
-      → (reread : Reread) → IsPutTogether paths old found read reread → IsReread paths old found before.told reread
-  reread_of those read same none classless one (Unclear repo) is = is
-  reread_of {before = before} {now = now} {start = start} {seen = seen} those read same none classless one (Done repo count) is =
+      → HasRead before now (λ look. edited_steps look those old.folders.categories) (λ look. read ≡ read_of look those old.folders.categories) start seen
+      → (reread : Reread) → IsPutTogether paths old read reread → IsReread paths old before.told reread
+  reread_of those read same none classless one (Unclear loaded) is = is
+  reread_of {before = before} {now = now} {start = start} {seen = seen} those read same none classless one (Done loaded) is =
       let made = is.0 in
       let new = small read in
-      let here = subst (λ (ps : List (List ℕ)). HasRead before now (λ look. edited_steps look ps old.categories) (λ look. read ≡ read_of look ps old.categories) start seen) same one in
-      subst (λ (r : Repo). IsRereadOf paths old found before.told r count) (sym made.is) (record {
-        order = in_order paths old new;
-        bodies = as_many paths old new;
-        some = λ whole but was. part_after paths old new whole but a (named paths old.pkgs made.old_names) (named paths new.pkgs made.new_names) was classless;
-        tells = tells_told before.told start seen read count none here.passed here.value is.1;
+      let here = subst (λ (ps : List (List ℕ)). HasRead before now (λ look. edited_steps look ps old.folders.categories) (λ look. read ≡ read_of look ps old.folders.categories) start seen) same one in
+      subst (λ (l : Loaded). IsRereadOf paths old before.told l) (sym (made_of loaded old.folders (replaced paths old.repo new) made.is is.1.0)) (record {
+        order = in_order paths old.repo new;
+        bodies = as_many paths old.repo new;
+        folders = refl;
+        some = λ whole but was. part_after paths old.repo new whole but a (named paths old.repo.pkgs made.old_names) (named paths new.pkgs made.new_names) was classless;
+        tells = tells_told before.told start seen read loaded.found none here.passed here.value is.1.1;
       })
 
 -- ---- why it isn't told
-untold_at : (paths : List (List ℕ)) (old : Repo) (found : ℕ) (read : GivenRead) (told : Option FileMap) → IsUntold paths old found read → (IsTold told → read ≡ read_of (look_in told) paths old.categories)
-    → IfSome told (λ files. IsUnclear paths old found (look_of files))
+untold_at : (paths : List (List ℕ)) (old : Loaded) (read : GivenRead) (told : Option FileMap) → IsUntold paths old read → (IsTold told → read ≡ read_of (look_in told) paths old.folders.categories)
+    → IfSome told (λ files. IsUnclear paths old (look_of files))
 unfolding look_in
-untold_at paths old found read None why is = tt
-untold_at paths old found read (Some files) why is = inr (subst (λ (r : GivenRead). IsUntold paths old found r) (is refl) why)
+untold_at paths old read None why is = tt
+untold_at paths old read (Some files) why is = inr (subst (λ (r : GivenRead). IsUntold paths old r) (is refl) why)
 
-pub untold_of : (paths : List (List ℕ)) (old : Repo) (found : ℕ) {before now : View} {start seen : Seen} (those : List (List ℕ)) (read : GivenRead) → those ≡ paths
-    → HasRead before now (λ look. edited_steps look those old.categories) (λ look. read ≡ read_of look those old.categories) start seen
-    → (reread : Reread) → UntoldCause paths old found read reread → UnclearCause paths old found before.told reread
-untold_of paths old found those read same one (Done repo count) why = tt
-untold_of paths old found {before = before} {now = now} {start = start} {seen = seen} those read same one (Unclear repo) why =
-    let here = subst (λ (ps : List (List ℕ)). HasRead before now (λ look. edited_steps look ps old.categories) (λ look. read ≡ read_of look ps old.categories) start seen) same one in
-    untold_at paths old found read before.told why here.value
+pub untold_of : (paths : List (List ℕ)) (old : Loaded) {before now : View} {start seen : Seen} (those : List (List ℕ)) (read : GivenRead) → those ≡ paths
+    → HasRead before now (λ look. edited_steps look those old.folders.categories) (λ look. read ≡ read_of look those old.folders.categories) start seen
+    → (reread : Reread) → UntoldCause paths old read reread → UnclearCause paths old before.told reread
+untold_of paths old those read same one (Done loaded) why = tt
+untold_of paths old {before = before} {now = now} {start = start} {seen = seen} those read same one (Unclear loaded) why =
+    let here = subst (λ (ps : List (List ℕ)). HasRead before now (λ look. edited_steps look ps old.folders.categories) (λ look. read ≡ read_of look ps old.folders.categories) start seen) same one in
+    untold_at paths old read before.told why here.value
 
-refused_at : (paths : List (List ℕ)) (old : Repo) (found : ℕ) (fault : LoadFault) (told : Option FileMap) → (IsTold told → passed (look_in told) nothing (edited_steps (look_in told) paths old.categories) ≡ Err fault)
-    → IfSome told (λ files. IsUnclear paths old found (look_of files))
+refused_at : (paths : List (List ℕ)) (old : Loaded) (fault : LoadFault) (told : Option FileMap) → (IsTold told → passed (look_in told) nothing (edited_steps (look_in told) paths old.folders.categories) ≡ Err fault)
+    → IfSome told (λ files. IsUnclear paths old (look_of files))
 unfolding look_in
-refused_at paths old found fault None is = tt
-refused_at paths old found fault (Some files) is = inl (ap is_refused (is refl))
+refused_at paths old fault None is = tt
+refused_at paths old fault (Some files) is = inl (ap is_refused (is refl))
 
 -- what refused is that of the files
 pub no_file : (told : Option FileMap) (before now : ℕ) {out : Out} {fault : LoadFault} {path : List ℕ} → fault ≡ NotARepository path → Cause told before now out fault → IsTold told → out ≡ Err (NotARepository path)
@@ -192,9 +209,9 @@ no_file told before now {out = out} is cause = (subst (Cause told before now out
 pub no_room : (told : Option FileMap) (before now : ℕ) {out : Out} {fault : LoadFault} {place : List ℕ} {number : ℕ} → fault ≡ Limit place number → Cause told before now out fault → IsTold told → out ≡ Err (Limit place number)
 no_room told before now {out = out} is cause = (subst (Cause told before now out) is cause).1
 
-pub refused_of : (paths : List (List ℕ)) (old : Repo) (found : ℕ) (told : Option FileMap) {start : Seen} (those : List (List ℕ)) (fault : LoadFault) → those ≡ paths → start ≡ nothing
-    → (IsTold told → passed (look_in told) start (edited_steps (look_in told) those old.categories) ≡ Err fault)
-    → IfSome told (λ files. IsUnclear paths old found (look_of files))
-refused_of paths old found told {start = start} those fault same none refused =
-    refused_at paths old found fault told (λ t. sym (ap (λ (s : Seen). passed (look_in told) s (edited_steps (look_in told) paths old.categories)) none)
-    ∙ sym (ap (λ (ps : List (List ℕ)). passed (look_in told) start (edited_steps (look_in told) ps old.categories)) same) ∙ refused t)
+pub refused_of : (paths : List (List ℕ)) (old : Loaded) (told : Option FileMap) {start : Seen} (those : List (List ℕ)) (fault : LoadFault) → those ≡ paths → start ≡ nothing
+    → (IsTold told → passed (look_in told) start (edited_steps (look_in told) those old.folders.categories) ≡ Err fault)
+    → IfSome told (λ files. IsUnclear paths old (look_of files))
+refused_of paths old told {start = start} those fault same none refused =
+    refused_at paths old fault told (λ t. sym (ap (λ (s : Seen). passed (look_in told) s (edited_steps (look_in told) paths old.folders.categories)) none)
+    ∙ sym (ap (λ (ps : List (List ℕ)). passed (look_in told) start (edited_steps (look_in told) ps old.folders.categories)) same) ∙ refused t)

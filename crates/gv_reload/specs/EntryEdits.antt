@@ -17,7 +17,7 @@ use Rattle.gv_report.specs.declared.report.Subject.{Subject}
 use Rattle.gv_report.specs.declared.report.Subject.TheVariants.{Place, Package}
 use Rattle.gv_load.specs.Categories.{is_pf, name_of}
 use Rattle.gv_load.specs.Loading.{loading}
-use Rattle.gv_load.specs.Repository.{AreClassless}
+use Rattle.gv_load.specs.Repository.{AreClassless, folders_of}
 use Rattle.gv_reading.specs.Look.{look_of}
 use Rattle.gv_load.specs.Paths.{entry_path}
 use Rattle.gv_load.specs.declared.loading.Repo.{Repo}
@@ -88,8 +88,6 @@ pub record IsAllBut (repo whole : Repo) : Type 0 where
   pub bodies : whole.bodies ≡ repo.bodies
   pub profiles : whole.profiles ≡ repo.profiles
   pub lines : whole.lines ≡ repo.lines
-  pub categories : whole.categories ≡ repo.categories
-  pub directories : whole.directories ≡ repo.directories
 
 -- the notes of a repository are those of packages with edited entries alone; the whole one has besides those of the others
 pub record IsPartOf (paths : List (List ℕ)) (repo whole : Repo) : Type 0 where
@@ -101,8 +99,6 @@ pub record IsPartOf (paths : List (List ℕ)) (repo whole : Repo) : Type 0 where
 pub record DifferIn (paths : List (List ℕ)) (old new : Repo) : Type 0 where
   pub profiles : new.profiles ≡ old.profiles
   pub lines : new.lines ≡ old.lines
-  pub categories : new.categories ≡ old.categories
-  pub directories : new.directories ≡ old.directories
   pub members : filter (is_other paths) (members_of new) ≡ filter (is_other paths) (members_of old)
   pub notes : (s : Subject) → is_edited paths s ≡ false → filter (is_about s) new.notes ≡ filter (is_about s) old.notes
   pub classless : AreClassless new.notes
@@ -119,10 +115,10 @@ EditedInLaw = (paths : List (List ℕ)) (category name version pf : List ℕ)
     → is_edited_in paths category ≡ false → is_edited paths (Package category name version pf) ≡ false
 
 -- Two repositories that are loaded of files which differ at paths of entries alone, where no directory of the profiles lies among
--- entries, differ in packages with such an entry alone.
+-- entries, differ in packages with such an entry alone, and their folders are the same.
 abbrev pub EntriesLaw : Type 0
 EntriesLaw = (paths : List (List ℕ)) (files files' : FileMap) (old new : Repo)
-    → list_all (is_entry old.categories) paths ≡ true → list_any is_in_metadata old.directories ≡ false
+    → list_all (is_entry (folders_of (look_of files)).categories) paths ≡ true → list_any is_in_metadata (folders_of (look_of files)).directories ≡ false
     → AreAlikeBut paths files files'
     → loading (look_of files) ≡ Ok old → loading (look_of files') ≡ Ok new
-    → DifferIn paths old new
+    → DifferIn paths old new × (folders_of (look_of files') ≡ folders_of (look_of files))

@@ -33,8 +33,6 @@ replaced paths old new = record {
   profiles = old.profiles;
   lines = old.lines;
   notes = edited_notes paths new.notes;
-  categories = old.categories;
-  directories = old.directories;
 }
 
 -- it is all but notes of a whole repository that differs from the one before in edited entries alone

@@ -13,7 +13,7 @@ use Rattle.gv_base.specs.Order.{has_text, in_order}
 use Rattle.gv_load.specs.Loading.{PassesWithin, loading}
 use Rattle.gv_load.specs.Entries.{eclass_digest, pf_read}
 use Rattle.gv_reload.specs.EntryEdits.{AreAlikeBut, DifferIn, IsAllBut, IsPartOf, entry_parts, is_in_metadata}
-use Rattle.gv_load.specs.Repository.{AreClassless, AreInPackageOrder}
+use Rattle.gv_load.specs.Repository.{AreClassless, AreInPackageOrder, folders_of}
 use Rattle.gv_load.specs.Freshness.{pf_kept}
 use Rattle.gv_reading.specs.Look.{Look, look_of}
 use Rattle.gv_load.specs.Given.{all_said, pfs_in, read_with}
@@ -27,6 +27,7 @@ use Rattle.gv_reading.specs.declared.faults.LoadFault.TheVariants.{Tree, NotARep
 use Rattle.gv_load.specs.declared.freshness.PfKept.{PfKept}
 use Rattle.gv_load.specs.declared.given.Given.{Given}
 use Rattle.gv_load.specs.declared.given.GivenRead.{GivenRead}
+use Rattle.gv_load.specs.declared.loading.Loaded.{Loaded}
 use Rattle.gv_load.specs.declared.loading.Repo.{Repo}
 use Rattle.gv_reload.specs.declared.rereading.Reread.{Reread}
 use Rattle.gv_reload.specs.declared.rereading.Reread.TheVariants.{Done, Unclear}
@@ -80,8 +81,6 @@ small read = record {
   profiles = [];
   lines = [];
   notes = read.notes;
-  categories = [];
-  directories = [];
 }
 
 abbrev pub is_refused : Out → Bool
@@ -90,44 +89,47 @@ is_refused (Err fault) = true
 
 -- ---- what comes of it
 
--- the files load, and the repository is all but notes of theirs, which differs from the one before in edited entries alone
-pub record TellsWhole (paths : List (List ℕ)) (before repo : Repo) (files : FileMap) (found : ℕ) : Type 0 where
+-- the files load, and the repository is all but notes of theirs, which differs from the one before in edited entries alone; the folders
+-- are theirs
+pub record TellsWhole (paths : List (List ℕ)) (before : Repo) (now : Loaded) (files : FileMap) : Type 0 where
   pub whole : Repo
   pub loads : loading (look_of files) ≡ Ok whole
-  pub part : IsPartOf paths repo whole
+  pub part : IsPartOf paths now.repo whole
   pub differ : DifferIn paths before whole
-  pub passes : PassesWithin files found
+  pub folders : now.folders ≡ folders_of (look_of files)
+  pub passes : PassesWithin files now.found
 
 -- It is so of whatever whole repository the old one is of. Where that one is loaded of files that are as those of the tree but for
--- edited entries, no directory of its profiles lies among entries, and so many files at most are found, it is all but notes of what
--- is loaded of the tree
-pub record IsRereadOf (paths : List (List ℕ)) (old : Repo) (found : ℕ) (told : Option FileMap) (repo : Repo) (now : ℕ) : Type 0 where
-  pub order : AreInPackageOrder repo.pkgs
-  pub bodies : length repo.bodies ≡ length repo.pkgs
-  pub some : (before : Repo) → IsAllBut old before → AreClassless before.notes → IsAfter paths before repo
-  pub tells : (files files' : FileMap) (before : Repo) → told ≡ Some files' → IsAllBut old before → loading (look_of files) ≡ Ok before
-      → PassesWithin files found → list_any is_in_metadata old.directories ≡ false → AreAlikeBut paths files files'
-      → TellsWhole paths before repo files' now
+-- edited entries, the folders are theirs, no directory of profiles lies among entries, and so many files at most are found, it is all
+-- but notes of what is loaded of the tree
+pub record IsRereadOf (paths : List (List ℕ)) (old : Loaded) (told : Option FileMap) (now : Loaded) : Type 0 where
+  pub order : AreInPackageOrder now.repo.pkgs
+  pub bodies : length now.repo.bodies ≡ length now.repo.pkgs
+  pub folders : now.folders ≡ old.folders
+  pub some : (before : Repo) → IsAllBut old.repo before → AreClassless before.notes → IsAfter paths before now.repo
+  pub tells : (files files' : FileMap) (before : Repo) → told ≡ Some files' → IsAllBut old.repo before → loading (look_of files) ≡ Ok before
+      → old.folders ≡ folders_of (look_of files) → PassesWithin files old.found → list_any is_in_metadata old.folders.directories ≡ false
+      → AreAlikeBut paths files files' → TellsWhole paths before now files'
 
-abbrev pub IsReread : (paths : List (List ℕ)) → (old : Repo) → (found : ℕ) → Option FileMap → Reread → Type 0
-IsReread paths old found told (Done repo now) = IsRereadOf paths old found told repo now
-IsReread paths old found told (Unclear repo) = repo ≡ old
+abbrev pub IsReread : (paths : List (List ℕ)) → (old : Loaded) → Option FileMap → Reread → Type 0
+IsReread paths old told (Done now) = IsRereadOf paths old told now
+IsReread paths old told (Unclear same) = same ≡ old
 
 -- Why it isn't told by edited entries alone whether a load passes: a category has the name of the folder of entries, more files than a
 -- load may find could be found, or an edited package has a name that no edited entry has
-abbrev pub IsUntold : (paths : List (List ℕ)) → (old : Repo) → (found : ℕ) → GivenRead → Type 0
-IsUntold paths old found read =
-    (has_text old.categories (codes "metadata") ≡ true)
-    ⊎ ((most_files < found + read.more) ⊎ ((are_named paths old.pkgs ≡ false) ⊎ (are_named paths read.pkgs ≡ false)))
+abbrev pub IsUntold : (paths : List (List ℕ)) → (old : Loaded) → GivenRead → Type 0
+IsUntold paths old read =
+    (has_text old.folders.categories (codes "metadata") ≡ true)
+    ⊎ ((most_files < old.found + read.more) ⊎ ((are_named paths old.repo.pkgs ≡ false) ⊎ (are_named paths read.pkgs ≡ false)))
 
 -- or reading them was refused
-abbrev pub IsUnclear : (paths : List (List ℕ)) → (old : Repo) → (found : ℕ) → Look → Type 0
-IsUnclear paths old found look =
-    (is_refused (passed look nothing (edited_steps look paths old.categories)) ≡ true) ⊎ IsUntold paths old found (read_of look paths old.categories)
+abbrev pub IsUnclear : (paths : List (List ℕ)) → (old : Loaded) → Look → Type 0
+IsUnclear paths old look =
+    (is_refused (passed look nothing (edited_steps look paths old.folders.categories)) ≡ true) ⊎ IsUntold paths old (read_of look paths old.folders.categories)
 
-abbrev pub UnclearCause : (paths : List (List ℕ)) → (old : Repo) → (found : ℕ) → Option FileMap → Reread → Type 0
-UnclearCause paths old found told (Done repo now) = Unit {0}
-UnclearCause paths old found told (Unclear repo) = IfSome told (λ files. IsUnclear paths old found (look_of files))
+abbrev pub UnclearCause : (paths : List (List ℕ)) → (old : Loaded) → Option FileMap → Reread → Type 0
+UnclearCause paths old told (Done now) = Unit {0}
+UnclearCause paths old told (Unclear same) = IfSome told (λ files. IsUnclear paths old (look_of files))
 
 -- why edited entries were not read anew
 abbrev pub RereadCause : (before now : ℕ) → LoadFault → Type 0
@@ -142,23 +144,23 @@ pub record IsMade (paths : List (List ℕ)) (old : Repo) (read : GivenRead) (rep
   pub old_names : are_named paths old.pkgs ≡ true
   pub new_names : are_named paths read.pkgs ≡ true
 
-abbrev pub IsMadeOf : (paths : List (List ℕ)) → (old : Repo) → (found : ℕ) → GivenRead → Reread → Type 0
-IsMadeOf paths old found read (Done repo now) = (now ≡ found) × IsMade paths old read repo
-IsMadeOf paths old found read (Unclear repo) = repo ≡ old
+abbrev pub IsMadeOf : (paths : List (List ℕ)) → (old : Loaded) → (found : ℕ) → GivenRead → Reread → Type 0
+IsMadeOf paths old found read (Done now) = (now.found ≡ found) × ((now.folders ≡ old.folders) × IsMade paths old.repo read now.repo)
+IsMadeOf paths old found read (Unclear same) = same ≡ old
 
-pub record HasRoom (old : Repo) (found more now : ℕ) : Type 0 where
-  pub is : now ≡ found + more
+pub record HasRoom (old : Loaded) (more now : ℕ) : Type 0 where
+  pub is : now ≡ old.found + more
   pub room : now ≤ most_files
-  pub apart : has_text old.categories (codes "metadata") ≡ false
+  pub apart : has_text old.folders.categories (codes "metadata") ≡ false
 
-abbrev pub IsPutTogether : (paths : List (List ℕ)) → (old : Repo) → (found : ℕ) → GivenRead → Reread → Type 0
-IsPutTogether paths old found read (Done repo now) = IsMade paths old read repo × HasRoom old found read.more now
-IsPutTogether paths old found read (Unclear repo) = repo ≡ old
+abbrev pub IsPutTogether : (paths : List (List ℕ)) → (old : Loaded) → GivenRead → Reread → Type 0
+IsPutTogether paths old read (Done now) = IsMade paths old.repo read now.repo × ((now.folders ≡ old.folders) × HasRoom old read.more now.found)
+IsPutTogether paths old read (Unclear same) = same ≡ old
 
-abbrev pub UntoldCause : (paths : List (List ℕ)) → (old : Repo) → (found : ℕ) → GivenRead → Reread → Type 0
-UntoldCause paths old found read (Done repo now) = Unit {0}
-UntoldCause paths old found read (Unclear repo) = IsUntold paths old found read
+abbrev pub UntoldCause : (paths : List (List ℕ)) → (old : Loaded) → GivenRead → Reread → Type 0
+UntoldCause paths old read (Done now) = Unit {0}
+UntoldCause paths old read (Unclear same) = IsUntold paths old read
 
-abbrev pub NameCause : (paths : List (List ℕ)) → (old : Repo) → GivenRead → Reread → Type 0
-NameCause paths old read (Done repo now) = Unit {0}
-NameCause paths old read (Unclear repo) = (are_named paths old.pkgs ≡ false) ⊎ (are_named paths read.pkgs ≡ false)
+abbrev pub NameCause : (paths : List (List ℕ)) → (old : Loaded) → GivenRead → Reread → Type 0
+NameCause paths old read (Done now) = Unit {0}
+NameCause paths old read (Unclear same) = (are_named paths old.repo.pkgs ≡ false) ⊎ (are_named paths read.pkgs ≡ false)

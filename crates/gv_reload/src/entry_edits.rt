@@ -12,7 +12,7 @@ ghost use Rattle.gv_load.specs.Paths.{entry_path};
 ghost use Rattle.gv_reload.specs.EntryEdits.{entry_name, is_edited, is_edited_in};
 
 use crate::entry_paths::{after_prefix, entry_parts};
-use crate::joined::{Joined, behind_front};
+use crate::joined::Joined;
 use gv_base::{NoMemory, Text, Texts};
 use gv_load::name_in;
 use gv_reading::within;
@@ -170,7 +170,7 @@ fn with_path(alloc: Global, edits: EntryEdits, path: &Text) -> Result<EntryEdits
 fn with_entry(alloc: Global, entries: Joined, path: &Text) -> Result<Joined, NoMemory>
     ensures { IfOk result (λ more. (category pf : List ℕ) → has_text more (within category pf) ≡ (bytes_eq (entry_path category pf) path.now || has_text entries (within category pf))) }
 {
-    match behind_front(b"metadata/md5-cache/", path.bytes()) {
+    match after_prefix(b"metadata/md5-cache/", path.bytes()) {
         Some(rest) => {
             let more = entries.with(alloc, Text::of(alloc, rest)?)?;
             Ok(more)

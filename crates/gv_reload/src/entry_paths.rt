@@ -1,6 +1,6 @@
 //! Paths of entries: the category and the PF of one, whether a path is that of an entry, and whether one lies among entries. O(bytes of
 //! the path), and of the categories' names.
-ghost use Rattle.std.specs.Prelude.{◌≡◌, None, Some, IfOk, MatchOption};
+ghost use Rattle.std.specs.Prelude.{◌≡◌, ◌≢◌, ◌++◌, ℕ, List, None, Some, IfOk, MatchOption};
 ghost use Rattle.gv_base.specs.Cut.{after_prefix};
 ghost use Rattle.gv_reload.specs.EntryEdits.{entry_parts, is_entry, is_in_metadata, parts_behind};
 
@@ -56,7 +56,8 @@ pub(crate) fn parts_behind(rest: &[u8]) -> (&[u8], &[u8])
 
 /// What follows the prefix, where the bytes begin with it.
 pub(crate) fn after_prefix<'a>(prefix: &[u8], path: &'a [u8]) -> Option<&'a [u8]>
-    ensures { MatchOption result (after_prefix prefix.now path.now ≡ None) (λ rest. after_prefix prefix.now path.now ≡ Some rest.now) }
+    ensures after { MatchOption result (after_prefix prefix.now path.now ≡ None) (λ rest. after_prefix prefix.now path.now ≡ Some rest.now) }
+    ensures cut { MatchOption result ((rest : List ℕ) → path.now ≢ prefix.now ++ rest) (λ rest. path.now ≡ prefix.now ++ rest.now) }
 {
     path.strip_prefix(prefix)
 }

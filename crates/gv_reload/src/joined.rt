@@ -3,7 +3,7 @@
 //! A look-up takes no memory. Among a few texts it compares the pieces with each; else it costs O(log n) comparisons of pieces for n
 //! texts, and O(n) where the first piece has a slash, as no category has. A text that is added is cut at its first slash: that costs
 //! O(its bytes) and O(log n) comparisons.
-ghost use Rattle.std.specs.Prelude.{◌≡◌, ◌≢◌, ◌∷◌, [], ◌++◌, ◌&&◌, ◌||◌, ℕ, List, false, not, IfOk, MatchOption, OnOk, OnErr};
+ghost use Rattle.std.specs.Prelude.{◌≡◌, ◌∷◌, [], ◌++◌, ◌&&◌, ◌||◌, ℕ, List, false, not, IfOk, OnOk, OnErr};
 ghost use Rattle.std.specs.FinMap as finite;
 ghost use Rattle.std.specs.Option.{option_copied};
 ghost use Rattle.std.specs.Str.{bytes_eq};
@@ -12,7 +12,7 @@ ghost use Rattle.gv_base.specs.Order.{has_text};
 ghost use Rattle.gv_reading.specs.Paths.{within};
 ghost use Rattle.gv_reload.specs.Joined.{has_pair, has_slash};
 
-use crate::entry_paths::parts_behind;
+use crate::entry_paths::{after_prefix, parts_behind};
 use gv_base::{NoMemory, Text, Texts, map_law};
 use gv_reading::{add_key, has_key};
 use std::alloc::Global;
@@ -113,17 +113,10 @@ fn is_joined(text: &[u8], first: &[u8], second: &[u8]) -> bool
     if first.len() >= text.len() || text.len() - first.len() - 1 != second.len() {
         return false;
     }
-    match behind_front(first, text) {
+    match after_prefix(first, text) {
         Some(rest) => is_behind_slash(rest, second),
         None => false,
     }
-}
-
-/// What follows the front, where the text begins with it.
-pub(crate) fn behind_front<'a>(front: &[u8], text: &'a [u8]) -> Option<&'a [u8]>
-    ensures { MatchOption result ((rest : List ℕ) → text.now ≢ front.now ++ rest) (λ rest. text.now ≡ front.now ++ rest.now) }
-{
-    text.strip_prefix(front)
 }
 
 fn is_behind_slash(rest: &[u8], second: &[u8]) -> bool

@@ -71,8 +71,6 @@ pub(crate) fn replaced(
         bodies,
         profiles,
         lines,
-        categories,
-        directories,
         ..
     } = old;
     let standing = Packages { pkgs, bodies };
@@ -91,8 +89,6 @@ pub(crate) fn replaced(
         profiles,
         lines,
         notes,
-        categories,
-        directories,
     })
 }
 

@@ -10,9 +10,9 @@ ghost use Rattle.gv_reading.specs.Reading.{most_files};
 use crate::edited_reads::read_edited;
 use crate::entry_edits::EntryEdits;
 use crate::replacing::{are_named, replaced};
-use gv_base::{NoMemory, Texts, Tree, in_order_law};
+use gv_base::{NoMemory, Tree, in_order_law};
 use gv_facts::Profiles;
-use gv_load::{GivenRead, Repo};
+use gv_load::{GivenRead, Loaded, Repo};
 use gv_profile::DescLines;
 use gv_reading::{LoadFault, MAX_FILES, Reader};
 use gv_version::split_pf_law;
@@ -21,14 +21,15 @@ use std::alloc::Global;
 /// What reading edited entries anew came to.
 #[derive(Drop)]
 pub enum Reread {
-    /// The repository, of whose notes those of edited entries alone are there, and how many files a load of all finds at most.
-    Done { repo: Repo, found: u64 },
+    /// The repository, of whose notes those of edited entries alone are there, its folders, and how many files a load of all finds at
+    /// most.
+    Done { loaded: Loaded },
     /// It isn't told by these entries alone whether a load of all passes: the old repository, as it was given.
-    Unclear { repo: Repo },
+    Unclear { loaded: Loaded },
 }
 
 /// Reads edited entries anew, their ebuilds and the eclasses that they name, and puts the repository after the edits together of
-/// these and of the old one, of whose load so many files were found at most.
+/// these and of the old one, of whose load at most as many files were found as it says.
 ///
 /// `Unclear` is answered where a path that would be read is too long, what stands there is too large, more files than a load may find
 /// could be found, a category is called `metadata`, or an edited package, of those before or of those now, has a name that no edited
@@ -36,14 +37,13 @@ pub enum Reread {
 pub fn reread_entries<T: Tree>(
     alloc: Global,
     tree: &mut T,
-    old: Repo,
-    found: u64,
+    old: Loaded,
     edits: &EntryEdits,
 ) -> Result<Reread, LoadFault>
-    requires old_order { AreInPackageOrder old.pkgs }
-    requires entries { list_all (is_entry old.categories) edits.now ≡ true }
-    ensures reread { IfOk result (IsReread edits.now old found (T.files tree.old)) }
-    ensures unclear { IfOk result (UnclearCause edits.now old found (T.files tree.old)) }
+    requires old_order { AreInPackageOrder old.repo.pkgs }
+    requires entries { list_all (is_entry old.folders.categories) edits.now ≡ true }
+    ensures reread { IfOk result (IsReread edits.now old (T.files tree.old)) }
+    ensures unclear { IfOk result (UnclearCause edits.now old (T.files tree.old)) }
     ensures cause { IfErr result (RereadCause (T.faults tree.old) (T.faults tree.new)) }
     ensures files { T.files tree.new ≡ T.files tree.old }
     ensures root { T.entered tree.new ≡ T.entered tree.old }
@@ -54,14 +54,20 @@ pub fn reread_entries<T: Tree>(
     in_order_law();
     split_pf_law();
     let mut reader = Reader::new(alloc);
-    match read_edited(alloc, &mut reader, tree, &old.categories, edits.paths()) {
-        Ok(read) => match put_together(alloc, old, found, read, edits) {
+    match read_edited(
+        alloc,
+        &mut reader,
+        tree,
+        &old.folders.categories,
+        edits.paths(),
+    ) {
+        Ok(read) => match put_together(alloc, old, read, edits) {
             Ok(reread) => Ok(reread),
             Err(_) => Err(LoadFault::NoMemory),
         },
         Err(LoadFault::Tree { path }) => Err(LoadFault::Tree { path }),
-        Err(LoadFault::NotARepository { .. }) => Ok(Reread::Unclear { repo: old }),
-        Err(LoadFault::Limit { .. }) => Ok(Reread::Unclear { repo: old }),
+        Err(LoadFault::NotARepository { .. }) => Ok(Reread::Unclear { loaded: old }),
+        Err(LoadFault::Limit { .. }) => Ok(Reread::Unclear { loaded: old }),
         Err(LoadFault::NoMemory) => Err(LoadFault::NoMemory),
     }
 }
@@ -78,45 +84,50 @@ fn with_more(found: u64, more: u64) -> Option<u64>
 
 fn put_together(
     alloc: Global,
-    old: Repo,
-    found: u64,
+    old: Loaded,
     read: GivenRead,
     edits: &EntryEdits,
 ) -> Result<Reread, NoMemory>
-    requires old_order { AreInPackageOrder old.pkgs }
+    requires old_order { AreInPackageOrder old.repo.pkgs }
     requires new_order { AreInPackageOrder read.pkgs }
-    ensures made { IfOk result (IsPutTogether edits.now old found read) }
-    ensures untold { IfOk result (UntoldCause edits.now old found read) }
+    ensures made { IfOk result (IsPutTogether edits.now old read) }
+    ensures untold { IfOk result (UntoldCause edits.now old read) }
 {
-    if old.categories.has(b"metadata") {
-        return Ok(Reread::Unclear { repo: old });
+    if old.folders.categories.has(b"metadata") {
+        return Ok(Reread::Unclear { loaded: old });
     }
-    let Some(found) = with_more(found, read.more) else {
-        return Ok(Reread::Unclear { repo: old });
+    let Some(found) = with_more(old.found, read.more) else {
+        return Ok(Reread::Unclear { loaded: old });
     };
     with_read(alloc, old, found, read, edits)
 }
 
 fn with_read(
     alloc: Global,
-    old: Repo,
+    old: Loaded,
     found: u64,
     read: GivenRead,
     edits: &EntryEdits,
 ) -> Result<Reread, NoMemory>
-    requires old_order { AreInPackageOrder old.pkgs }
+    requires old_order { AreInPackageOrder old.repo.pkgs }
     requires new_order { AreInPackageOrder read.pkgs }
     ensures made { IfOk result (IsMadeOf edits.now old found read) }
     ensures untold { IfOk result (NameCause edits.now old read) }
 {
-    if !are_named(old.pkgs.items(), edits) {
-        return Ok(Reread::Unclear { repo: old });
+    if !are_named(old.repo.pkgs.items(), edits) {
+        return Ok(Reread::Unclear { loaded: old });
     }
     if !are_named(read.pkgs.items(), edits) {
-        return Ok(Reread::Unclear { repo: old });
+        return Ok(Reread::Unclear { loaded: old });
     }
-    let repo = replaced(alloc, old, small(alloc, read), edits)?;
-    Ok(Reread::Done { repo, found })
+    let Loaded { repo, folders, .. } = old;
+    let repo = replaced(alloc, repo, small(alloc, read), edits)?;
+    let loaded = Loaded {
+        repo,
+        folders,
+        found,
+    };
+    Ok(Reread::Done { loaded })
 }
 
 // The repository of these PFs alone.
@@ -130,8 +141,6 @@ fn small(alloc: Global, read: GivenRead) -> Repo
         bodies: read.bodies,
         profiles: Profiles::new(alloc),
         lines: DescLines::new(alloc),
-        categories: Texts::new(alloc),
-        directories: Texts::new(alloc),
         notes: read.notes,
     }
 }

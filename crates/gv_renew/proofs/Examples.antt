@@ -62,8 +62,6 @@ repo = record {
   bodies = record empty { depend = read_dep (codes "!x/gone"); rdepend = read_dep (codes "x/none || ( x/y x/z )"); pdepend = read_dep (codes "x/lost") } ∷ empty ∷ [];
   profiles = profile ∷ [];
   lines = [];
-  categories = codes "app" ∷ codes "x" ∷ [];
-  directories = [];
   notes = [];
 }
 

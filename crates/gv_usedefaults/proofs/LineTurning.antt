@@ -19,7 +19,7 @@ use Rattle.gv_usedefaults.specs.LineTurns.{HasEntered, HasTurned, IsNoNeed, ahea
 use Rattle.gv_reading.specs.Look.{Look, look_of}
 use Rattle.gv_reading.specs.Reader.{Seen, nothing}
 use Rattle.gv_reading.specs.Reading.{Out, Step, and_then, passed}
-use Rattle.gv_reading.specs.Passing.{IsAmid, ended_first, passed-append}
+use Rattle.gv_reading.specs.Passing.{IsAmid, asked_as, asked_behind, ended_first, passed-append}
 
 -- ---- the next steps may rest on what was read
 module _ {before mid now : View} {start old : Seen} {left one all : Look → List Step} {P : Look → Type 0} where
@@ -32,6 +32,8 @@ module _ {before mid now : View} {start old : Seen} {left one all : Look → Lis
         knows = more.knows;
         rest = λ t. sym (ap (passed (look_in before.told) old) (steps _ (amid.value t) (more.value t)) ∙ passed-append (look_in before.told) old (one (look_in before.told)) (behind (look_in before.told))
             ∙ ap (λ (o : Out). and_then o (λ n. passed (look_in before.told) n (behind (look_in before.told)))) (more.passed t)) ∙ amid.rest t;
+        asked = λ t path is. amid.asked t path (asked_as (look_in before.told) old _ _ path (steps _ (amid.value t) (more.value t))
+            (asked_behind (look_in before.told) old new (one (look_in before.told)) (behind (look_in before.told)) path (more.passed t) is));
         value = λ t. says _ (amid.value t) (more.value t);
       }
 

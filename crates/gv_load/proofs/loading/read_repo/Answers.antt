@@ -2,7 +2,7 @@ use Rattle.std.proofs.Common.{◌++◌, ◌∙◌, subst, sym}
 use Rattle.gv_load.specs.OwnLines.{HaveOwnLines}
 use Rattle.gv_load.specs.declared.loading.Repo.{Repo}
 use Rattle.gv_load.specs.Order.{categories, desc_lines, packages_steps, profiles_steps}
-use Rattle.gv_load.proofs.LoadLemmas.{first_steps, repo_is, steps_are}
+use Rattle.gv_load.proofs.LoadLemmas.{first_steps, read_is, steps_are}
 use Rattle.gv_reading.specs.Passing.{ended_behind, ended_first, ended_front, ended_then, faulted, no_memory, read_both, read_then}
 use Rattle.gv_load.proofs.loading.read_repo.Goals as goal
 
@@ -28,7 +28,7 @@ returns-clause-reads g c =
     let lists = c.in_ok-lists.lists in
     let rest = read_both c.in_ok-profiled.ensures.reads c.in_ok-kepts.ensures in
     read_then c.in_ok-lists.ensures.reads rest (λ look is more. steps_are look lists is)
-    (λ look is more. repo_is look lists c.in_ok-profiled.profiled c.in_ok-kepts.kepts _ c.in_ok-repo_with.ensures.repo is more.0 more.1)
+    (λ look is more. read_is look lists c.in_ok-profiled.profiled c.in_ok-kepts.kepts _ c.in_ok-repo_with.ensures.repo c.in_ok-repo_with.ensures.folders is more.0 more.1)
 
 pub returns-clause-own : goal.returns-clause-own
 returns-clause-own g c = subst (λ (r : Repo). HaveOwnLines r.profiles) (sym c.in_ok-repo_with.ensures.repo) c.in_ok-profiled.ensures.own

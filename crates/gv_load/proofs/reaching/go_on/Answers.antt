@@ -6,7 +6,7 @@ use Rattle.gv_load.specs.Ahead.{reached_after}
 use Rattle.gv_load.specs.Closed.{IsClosedBut, paths_left}
 use Rattle.gv_load.specs.Directories.{dir_at}
 use Rattle.gv_load.specs.ListLemmas.{read_at}
-use Rattle.gv_load.specs.Reaches.{next_path, no_path, same_whole}
+use Rattle.gv_load.specs.Reaches.{asked_whole, next_path, no_path, same_whole}
 use Rattle.gv_load.specs.Reaching.{reach_below}
 use Rattle.gv_load.proofs.Closing.{closed_done, closed_next}
 use Rattle.gv_load.proofs.Going.{stays, wants}
@@ -67,4 +67,8 @@ returns-in-Err g c =
           (λ t. sym (ap (λ (p : List ℕ). reached_after dirs 0 c.push.new.self.items (reach_below dirs (length c.push.new.self.items) c.args.reached.order p)) c.in-Ok.ensures
           ∙ next_path dirs c.args.ahead.now.items c.push.new.self.items c.args.rest c.args.reached.order c.in-Some.path.now there c.in-Ok-push.ensures.items))
           (one.cause start so_far);
+      asked = λ start so_far. asked_whole told start _ _ _
+          (λ t. sym (ap (λ (p : List ℕ). reached_after dirs 0 c.push.new.self.items (reach_below dirs (length c.push.new.self.items) c.args.reached.order p)) c.in-Ok.ensures
+          ∙ next_path dirs c.args.ahead.now.items c.push.new.self.items c.args.rest c.args.reached.order c.in-Some.path.now there c.in-Ok-push.ensures.items))
+          (one.asked start so_far);
     }

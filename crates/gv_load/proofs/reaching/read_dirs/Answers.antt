@@ -2,7 +2,7 @@ use Rattle.std.proofs.Common.{◌≡◌, ◌∷◌, [], ◌+◌, ℕ, drop, leng
 use Rattle.gv_base.specs.Order.{has_text}
 use Rattle.gv_load.specs.Directories.{dir_at, steps_of}
 use Rattle.gv_load.specs.Going.{HasGone}
-use Rattle.gv_load.specs.Reaches.{keeps_nothing, line_refused}
+use Rattle.gv_load.specs.Reaches.{asked_line, keeps_nothing, line_refused}
 use Rattle.gv_load.specs.Reaching.{from_line, reached_by}
 use Rattle.gv_load.specs.SameStacks.{same_stacks}
 use Rattle.gv_load.proofs.Closing.{closed_end, closed_nothing}
@@ -63,6 +63,7 @@ returns-in_err-reached g c =
       around = more.around;
       later = more.later;
       cause = line_refused told told refl _ _ _ refl c.args.reader.now old.order lines (drop i lines) (drop (i + 1) lines) line _ next inv.order (more.cause c.args.reader.now inv.passed);
+      asked = asked_line told c.args.reader.now old.order lines (drop i lines) (drop (i + 1) lines) line _ next inv.order (more.asked c.args.reader.now inv.passed);
     })
 
 pub returns : goal.returns
