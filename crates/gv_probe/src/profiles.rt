@@ -176,16 +176,16 @@ fn reread_over(
     requires { AreInPackageOrder old.repo.pkgs }
 {
     let path = given.part(0);
-    let edits = one_edit(alloc, &old.repo.categories, path)?;
+    let edits = one_edit(alloc, &old.folders.categories, path)?;
     let mut tree = outside.edited(alloc, path.bytes(), given.bytes(1))?;
-    match reread_entries(alloc, &mut tree, old.repo, old.found, &edits) {
-        Ok(Reread::Done { repo, found }) => {
-            tell(&repo, told);
+    match reread_entries(alloc, &mut tree, old, &edits) {
+        Ok(Reread::Done { loaded }) => {
+            tell(&loaded.repo, told);
             told.say("> at most ");
-            told.number(found);
+            told.number(loaded.found);
             told.say(" files\n");
         }
-        Ok(Reread::Unclear { repo: _repo }) => told.say("> unclear\n"),
+        Ok(Reread::Unclear { loaded: _loaded }) => told.say("> unclear\n"),
         Err(found) => fault(&found, told),
     }
     Ok(())

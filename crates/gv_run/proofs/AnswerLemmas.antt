@@ -58,7 +58,7 @@ abbrev pub unread_causes : Option FileMap → (before now : ℕ) → Causes
 unread_causes told before now = of_reading (Rose before now) (IsUnread told before now)
 
 pub unread : (told : Option FileMap) (before now : ℕ) (fault : LoadFault) (refusal : Refusal) → LoadCause told before now fault → HandsLoad fault refusal → Why (unread_causes told before now) refusal
-unread told before now (loads.Tree path) refusal cause is = subst (Why (unread_causes told before now)) (sym is) cause
+unread told before now (loads.Tree path) refusal cause is = subst (Why (unread_causes told before now)) (sym is) cause.0
 unread told before now (loads.NotARepository path) refusal cause is = subst (Why (unread_causes told before now)) (sym is) cause
 unread told before now (loads.Limit place number) refusal cause is = subst (Why (unread_causes told before now)) (sym is) (inl cause)
 unread told before now loads.NoMemory refusal cause is = subst (Why (unread_causes told before now)) (sym is) tt

@@ -13,6 +13,7 @@ use Rattle.gv_facts.specs.declared.pkg.Pkg.{Pkg}
 use Rattle.gv_facts.specs.declared.profile.Profile.{Profile}
 use Rattle.gv_reload.specs.EntryEdits.{IsAllBut}
 use Rattle.gv_load.specs.Loading.{loading}
+use Rattle.gv_load.specs.Repository.{folders_of}
 use Rattle.gv_reading.specs.Look.{look_of}
 use Rattle.gv_reading.specs.declared.faults.LoadFault.{LoadFault}
 use Rattle.gv_reading.specs.declared.faults.LoadFault.TheVariants as loads
@@ -29,7 +30,7 @@ use Rattle.gv_ending.specs.declared.refusal.Refusal.TheVariants.{NoMemory}
 use Rattle.gv_ending.specs.Causes.{Why, of_output}
 use Rattle.gv_ending.specs.Endings.{GainsFront}
 use Rattle.gv_run.specs.Naming.{has_line, name_text, pkg_text, profile_text}
-use Rattle.gv_run.specs.Session.{IsReport, due_in, report_text}
+use Rattle.gv_run.specs.Session.{IsReport, due_by, due_in, report_text}
 use Rattle.gv_run.specs.Refusing.{HandsJudge, HandsLoad}
 use Rattle.gv_run.specs.SessionSteps.{IsAnswered, IsCut, Sees, answer_causes, make_causes, writing}
 use Rattle.gv_run.proofs.Whys.{from_output, why_on}
@@ -50,10 +51,10 @@ sees s s' told told' old new text is options edits seen same agrees = record {
   few = by told is.loaded is.few;
 }
   where
-    by : (told : Option FileMap) → session.IsLoaded s.edits told is.repo → IfSome told (λ files. new.lower ≤ old.lower + due_in s.options (Ok is.repo) s.edits (seen_in s))
-        → IfSome told (λ files. new.lower ≤ old.lower + due_in s.options (loading (look_of (edited files s.edits))) s.edits (seen_in s))
+    by : (told : Option FileMap) → session.IsLoaded s.edits told is.repo → IfSome told (λ files. new.lower ≤ old.lower + due_by s.options (Ok is.repo) (folders_of (look_of (edited files s.edits))) s.edits (seen_in s))
+        → IfSome told (λ files. new.lower ≤ old.lower + due_in s.options files s.edits (seen_in s))
     by None loaded few = tt
-    by (Some files) loaded few = subst (λ (r : Result Repo LoadFault). new.lower ≤ old.lower + due_in s.options r s.edits (seen_in s)) (sym loaded) few
+    by (Some files) loaded few = subst (λ (r : Result Repo LoadFault). new.lower ≤ old.lower + due_by s.options r (folders_of (look_of (edited files s.edits))) s.edits (seen_in s)) (sym loaded) few
 
 -- a query has the same name in a repository that is the same but for its notes
 abbrev named_by : List Pkg → List Profile → QueryName → List ℕ

@@ -3,12 +3,9 @@ use Rattle.std.proofs.Common.{◌≡◌, ℕ, ◌+◌, ◌≤◌, List, [], ◌�
 use Rattle.std.specs.Prelude.{Option, IfSome}
 use Rattle.std.proofs.lemmas.List.{take-append-le}
 use Rattle.gv_base.specs.FileMap.{FileMap}
-use Rattle.gv_edits.specs.Edits.{edited}
 use Rattle.gv_edits.specs.declared.command.Command.{Command}
 use Rattle.gv_edits.specs.declared.command.Command.TheVariants.{Report}
 use Rattle.gv_edits.specs.declared.edit.Edit.{Edit}
-use Rattle.gv_load.specs.Loading.{loading}
-use Rattle.gv_reading.specs.Look.{look_of}
 use Rattle.gv_report.specs.declared.options.Options.{Options}
 use Rattle.gv_session.specs.Session.{Agrees, IsFound, IsLast, IsLoaded, State, seen_in, with_edit}
 use Rattle.gv_session.specs.declared.last.Last.{Last}
@@ -27,7 +24,7 @@ kept_on options edits edit told l is = record {
   classless = is.classless;
   few = omega (arith, is.few, length-append edits (edit ∷ []));
   loaded = subst (λ (es : List Edit). IsLoaded es told is.repo) (sym (take-append-le l.seen edits (edit ∷ []) is.few)) is.loaded;
-  found = subst (λ (es : List Edit). IsFound es told l.found) (sym (take-append-le l.seen edits (edit ∷ []) is.few)) is.found;
+  found = subst (λ (es : List Edit). IsFound es told l.loaded) (sym (take-append-le l.seen edits (edit ∷ []) is.few)) is.found;
   within = is.within;
   reports = is.reports;
   mentioned = is.mentioned;
@@ -97,13 +94,13 @@ module _ (told : Option FileMap) (p : At) where
     pub lowers_report : Sees told p.state q.state p.lower q.lower → Lowers told p q (Report ∷ [])
     lowers_report sees = by told sees.few
       where
-        by : (told : Option FileMap) → IfSome told (λ files. q.lower ≤ p.lower + due_in p.state.options (loading (look_of (edited files p.state.edits))) p.state.edits (seen_in p.state)) → Lowers told p q (Report ∷ [])
+        by : (told : Option FileMap) → IfSome told (λ files. q.lower ≤ p.lower + due_in p.state.options files p.state.edits (seen_in p.state)) → Lowers told p q (Report ∷ [])
         by None few = tt
         by (Some files) few = λ more.
             let here : work_from q files more ≡ work p.state.options files p.state.edits (Some (length p.state.edits)) more =
             ap (λ (o : Options). work o files q.state.edits (seen_in q.state) more) sees.options
             ∙ (ap (λ (es : List Edit). work p.state.options files es (seen_in q.state) more) sees.edits ∙ ap (λ (n : Option ℕ). work p.state.options files p.state.edits n more) sees.seen) in
-            due_more q.lower p.lower (due_in p.state.options (loading (look_of (edited files p.state.edits))) p.state.edits (seen_in p.state)) (work_from q files more) _ few here
+            due_more q.lower p.lower (due_in p.state.options files p.state.edits (seen_in p.state)) (work_from q files more) _ few here
 
     module _ (done : List Command) (lowers : Lowers told p q done) (more : List Command) where
       -- and on

@@ -12,8 +12,10 @@ use Rattle.gv_edits.specs.declared.command.Command.TheVariants as commands
 use Rattle.gv_edits.specs.declared.edit.Edit.{Edit}
 use Rattle.gv_edits.specs.declared.edit.Edit.TheVariants.{Put, Cut}
 use Rattle.gv_load.specs.Loading.{loading}
+use Rattle.gv_load.specs.Repository.{folders_of}
 use Rattle.gv_reading.specs.Look.{look_of}
 use Rattle.gv_reading.specs.declared.faults.LoadFault.{LoadFault}
+use Rattle.gv_load.specs.declared.loading.Folders.{Folders}
 use Rattle.gv_load.specs.declared.loading.Repo.{Repo}
 use Rattle.gv_report.specs.declared.options.Options.{Options}
 use Rattle.gv_checks.specs.Limits.{IsWithin, Refuses}
@@ -64,9 +66,12 @@ Writes options told edits (commands.End ∷ cs) text = ⊥
 
 -- what a report of these files may lower at most, where the report before saw so many of the edits: what is due in the repository that
 -- they load to, and nothing where loading is refused
-abbrev pub due_in : Options → Result Repo LoadFault → List Edit → (seen : Option ℕ) → ℕ
-due_in options (Ok repo) edits seen = due options repo edits seen
-due_in options (Err fault) edits seen = 0
+abbrev pub due_by : Options → Result Repo LoadFault → Folders → List Edit → (seen : Option ℕ) → ℕ
+due_by options (Ok repo) folders edits seen = due options repo folders edits seen
+due_by options (Err fault) folders edits seen = 0
+
+abbrev pub due_in : Options → (files : FileMap) → List Edit → (seen : Option ℕ) → ℕ
+due_in options files edits seen = due_by options (loading (look_of (edited files edits))) (folders_of (look_of (edited files edits))) edits seen
 
 -- the work of commands behind these edits of the files, of which the last report saw so many: a report adds what is due, and sees all
 -- edits before it
@@ -74,7 +79,7 @@ abbrev pub work : Options → FileMap → List Edit → (seen : Option ℕ) → 
 work options files edits seen [] = 0
 work options files edits seen (commands.Put path bytes ∷ cs) = work options files (edits ++ Put path bytes ∷ []) seen cs
 work options files edits seen (commands.Cut path ∷ cs) = work options files (edits ++ Cut path ∷ []) seen cs
-work options files edits seen (commands.Report ∷ cs) = due_in options (loading (look_of (edited files edits))) edits seen + work options files edits (Some (length edits)) cs
+work options files edits seen (commands.Report ∷ cs) = due_in options files edits seen + work options files edits (Some (length edits)) cs
 work options files edits seen (commands.End ∷ cs) = 0
 
 -- ---- which commands the input has, where it tells its bytes

@@ -7,14 +7,12 @@ use Rattle.std.specs.Option.{option_map}
 use Rattle.gv_base.specs.Causes.{Rose}
 use Rattle.gv_base.specs.FileMap.{FileMap}
 use Rattle.gv_base.specs.Outside.{gains}
-use Rattle.gv_edits.specs.Edits.{edited, edited_told}
+use Rattle.gv_edits.specs.Edits.{edited_told}
 use Rattle.gv_edits.specs.Pending.{whole}
 use Rattle.gv_edits.specs.Script.{Ending, Script, script_within, without_commands, Ended, Broken, Passed}
 use Rattle.gv_edits.specs.declared.command.Command.{Command}
 use Rattle.gv_edits.specs.declared.command.Command.TheVariants.{Put, Cut, Report, End}
 use Rattle.gv_edits.specs.declared.edit.Edit.TheVariants as edits
-use Rattle.gv_load.specs.Loading.{loading}
-use Rattle.gv_reading.specs.Look.{look_of}
 use Rattle.gv_session.specs.Session.{Agrees, State, seen_in, with_edit}
 use Rattle.gv_ending.specs.declared.refusal.Refusal.{Refusal}
 use Rattle.gv_ending.specs.declared.refusal.Refusal.TheVariants.{InputFailed, BadCommand, Limit, NoMemory}
@@ -87,7 +85,7 @@ pub record Sees (told : Option FileMap) (s s' : State) (before now : ℕ) : Type
   pub edits : s'.edits ≡ s.edits
   pub seen : seen_in s' ≡ Some (length s.edits)
   pub agrees : Agrees told s'
-  pub few : IfSome told (λ files. now ≤ before + due_in s.options (loading (look_of (edited files s.edits))) s.edits (seen_in s))
+  pub few : IfSome told (λ files. now ≤ before + due_in s.options files s.edits (seen_in s))
 
 -- how tree and output are left
 pub record Written : Type 0 where

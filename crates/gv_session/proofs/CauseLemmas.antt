@@ -16,14 +16,14 @@ use Rattle.gv_reading.specs.declared.faults.LoadFault.{LoadFault}
 use Rattle.gv_reading.specs.declared.faults.LoadFault.TheVariants as loads
 use Rattle.gv_load.specs.declared.loading.Repo.{Repo}
 use Rattle.gv_report.specs.declared.options.Options.{Options}
-use Rattle.gv_session.specs.Handing.{HandsJudge, HandsLoad}
+use Rattle.gv_session.specs.Handing.{EditedCause, HandsJudge, HandsLoad, failed_at}
 use Rattle.gv_session.specs.Session.{CauseFor, IsLoaded, JudgeCause}
 use Rattle.gv_session.specs.declared.fault.SessionFault.{SessionFault}
 use Rattle.gv_session.specs.declared.fault.SessionFault.TheVariants.{Load, Judge, NoMemory}
 use Rattle.gv_session.specs.declared.last.Last.{Last}
 
 pub itself : (repo : Repo) → IsAllBut repo repo
-itself repo = record { pkgs = refl; bodies = refl; profiles = refl; lines = refl; categories = refl; directories = refl }
+itself repo = record { pkgs = refl; bodies = refl; profiles = refl; lines = refl }
 
 -- what is told of the queries of a whole repository is told with the part that was judged
 pub unjudged : (options : Options) (part whole : Repo) (fault : JudgeFault) (out : SessionFault) → IsAllBut part whole → Refuses options.budget [] (queries options whole) fault → HandsJudge part fault out
@@ -36,8 +36,21 @@ pub judge_cause : (options : Options) (repo : Repo) (fault : JudgeFault) (out : 
     → JudgeCause options repo out
 judge_cause options repo fault out = unjudged options repo repo fault out (itself repo)
 
+-- a fault that is told where a call of the tree below failed
+pub edited_cause : (told : Option FileMap) (before now : ℕ) (failed : Option (List ℕ)) (fault : LoadFault) → LoadCause told before now fault → EditedCause told before now (failed_at failed fault)
+edited_cause told before now failed (loads.Tree path) cause = cause.0
+edited_cause told before now failed (loads.NotARepository path) cause = cause
+edited_cause told before now failed (loads.Limit place number) cause = cause
+edited_cause told before now failed loads.NoMemory cause = tt
+
+pub reread_still : (before now : ℕ) (failed : Option (List ℕ)) (fault : LoadFault) → RereadCause before now fault → RereadCause before now (failed_at failed fault)
+reread_still before now failed (loads.Tree path) cause = cause
+reread_still before now failed (loads.NotARepository path) cause = cause
+reread_still before now failed (loads.Limit place number) cause = cause
+reread_still before now failed loads.NoMemory cause = tt
+
 module _ (options : Options) (edits : List Edit) (told : Option FileMap) (tree_before tree_now : ℕ) where
-  pub load_cause : (counts : Counts) (fault : LoadFault) (out : SessionFault) → LoadCause (edited_told told edits) tree_before tree_now fault → HandsLoad fault out
+  pub load_cause : (counts : Counts) (fault : LoadFault) (out : SessionFault) → EditedCause (edited_told told edits) tree_before tree_now fault → HandsLoad fault out
       → CauseFor options edits told tree_before tree_now counts counts out
   load_cause counts (loads.Tree path) out cause is = subst (CauseFor options edits told tree_before tree_now counts counts) (sym is) (cause, refl)
   load_cause counts (loads.NotARepository path) out cause is = subst (CauseFor options edits told tree_before tree_now counts counts) (sym is) (cause.0, (refl, cause.1))

@@ -1,6 +1,6 @@
 -- Files with edits that some were seen of: elsewhere than at the paths of the others they are as with those that were seen.
-use Rattle.std.proofs.Common.{◌≡◌, ℕ, Bool, true, false, ◌||◌, cond, List, [], ◌∷◌, length, map, refl, sym, ap, ◌∙◌, Option, Some}
-use Rattle.std.specs.Prelude.{take, drop, fold}
+use Rattle.std.proofs.Common.{◌≡◌, ℕ, Bool, true, false, ◌||◌, cond, List, [], ◌∷◌, length, map, refl, sym, ap, ◌∙◌, Option, None, Some}
+use Rattle.std.specs.Prelude.{Result, Ok, Err, take, drop, fold, IfSome, IfOk}
 use Rattle.std.specs.FinMap.{get, get-insert, get-remove}
 use Rattle.std.specs.Str.{bytes_eq}
 use Rattle.std.proofs.lemmas.Cmp.{nat_list_cmp_total}
@@ -10,10 +10,16 @@ use Rattle.std.proofs.lemmas.List.{take-append-drop}
 use Rattle.std.proofs.lemmas.List.Sums.{fold-append}
 use Rattle.gv_base.specs.FileMap.{FileMap}
 use Rattle.gv_base.specs.Order.{has_text}
-use Rattle.gv_edits.specs.Edits.{after_edit, edit_path, edited}
+use Rattle.gv_edits.specs.Edits.{after_edit, edit_path, edited, edited_told}
 use Rattle.gv_edits.specs.declared.edit.Edit.{Edit}
 use Rattle.gv_edits.specs.declared.edit.Edit.TheVariants.{Put, Cut}
+use Rattle.gv_load.specs.Loading.{PassesWithin}
+use Rattle.gv_load.specs.Repository.{folders_of}
+use Rattle.gv_load.specs.declared.loading.Loaded.{Loaded}
+use Rattle.gv_reading.specs.Look.{look_of}
+use Rattle.gv_reading.specs.declared.faults.LoadFault.{LoadFault}
 use Rattle.gv_session.specs.Due.{new_paths}
+use Rattle.gv_session.specs.Session.{IsFound}
 
 first_off : (a b : Bool) → (a || b) ≡ false → (a ≡ false) × (b ≡ false)
 first_off true b h = absurd (false≢true (sym h))
@@ -39,3 +45,17 @@ same_elsewhere files edits n path none = ap (λ m. get m path) (then_others file
 pub take_all : {X : Type 0} (xs : List X) → take (length xs) xs ≡ xs
 take_all [] = refl
 take_all (x ∷ xs) = ap (λ ys. x ∷ ys) (take_all xs)
+
+-- where the files are told, how many of them are found and the folders are those of the files with the edits
+pub found_at : (edits : List Edit) (files : FileMap) (l : Loaded) → IsFound edits (Some files) l → PassesWithin (edited files edits) l.found × (l.folders ≡ folders_of (look_of (edited files edits)))
+found_at edits files l found = found
+
+pub found_both : (edits : List Edit) (told : Option FileMap) (l : Loaded) → IfSome (edited_told told edits) (λ files. PassesWithin files l.found)
+    → IfSome (edited_told told edits) (λ files. l.folders ≡ folders_of (look_of files)) → IsFound edits told l
+found_both edits None l within are = tt
+found_both edits (Some files) l within are = (within, are)
+
+pub loaded_both : (edits : List Edit) (told : Option FileMap) (result : Result Loaded LoadFault) → IfOk result (λ l. IfSome (edited_told told edits) (λ files. PassesWithin files l.found))
+    → IfOk result (λ l. IfSome (edited_told told edits) (λ files. l.folders ≡ folders_of (look_of files))) → IfOk result (IsFound edits told)
+loaded_both edits told (Ok l) within are = found_both edits told l within are
+loaded_both edits told (Err fault) within are = tt

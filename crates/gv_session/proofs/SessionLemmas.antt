@@ -4,21 +4,25 @@ use Rattle.std.specs.Prelude.{Option, None, Some, IfSome, take}
 use Rattle.std.proofs.lemmas.List.{take-append-le}
 use Rattle.gv_base.specs.Counts.{Counts}
 use Rattle.gv_base.specs.FileMap.{FileMap}
+use Rattle.gv_edits.specs.Edits.{edited}
 use Rattle.gv_edits.specs.declared.edit.Edit.{Edit}
 use Rattle.gv_checks.specs.RepoReports.{reports as all_reports, scan_reports, scan_text}
 use Rattle.gv_reload.specs.EntryEdits.{IsAllBut}
-use Rattle.gv_load.specs.Repository.{AreInPackageOrder}
+use Rattle.gv_load.specs.Repository.{AreInPackageOrder, folders_of}
+use Rattle.gv_load.specs.declared.loading.Folders.{Folders}
 use Rattle.gv_load.specs.declared.loading.Repo.{Repo}
+use Rattle.gv_reading.specs.Look.{look_of}
 use Rattle.gv_report.specs.Emitted.{emitted, reports_text}
 use Rattle.gv_report.specs.Distinct.{ordered}
 use Rattle.gv_report.specs.Selecting.{selected}
 use Rattle.gv_report.specs.declared.options.Options.{Options}
 use Rattle.gv_report.specs.declared.report.Report.{Report}
+use Rattle.gv_session.specs.Due.{due}
 use Rattle.gv_session.specs.Judging.{IsJudgedFor, IsRefusedFor, Outset, outset, seen_by}
 use Rattle.gv_session.specs.Session.{Agrees, IsFound, IsLast, IsLoaded, IsReport, ReportCause, State, seen_in, with_edit}
 use Rattle.gv_session.specs.declared.fault.SessionFault.{SessionFault}
 use Rattle.gv_session.specs.declared.last.Last.{Last}
-use Rattle.gv_session.proofs.EditLemmas.{take_all}
+use Rattle.gv_session.proofs.EditLemmas.{found_at, take_all}
 
 abbrev pub PickedLaw : Type 0
 PickedLaw = (p : Report → Bool) (rs : List Report) → filter p (ordered rs) ≡ ordered (filter p rs)
@@ -40,15 +44,25 @@ text_is law options repo reports text is made =
 from_part : (whole repo : Repo) → IsAllBut repo whole → length repo.bodies ≡ length repo.pkgs → length whole.bodies ≡ length whole.pkgs
 from_part whole repo but is = ap length but.bodies ∙ is ∙ sym (ap length but.pkgs)
 
+-- the folders are those of the edited files
+few_in : (s : State) (told : Option FileMap) (before now : Counts) (l : Last) → (j : IsJudgedFor (outset s.options s.edits told (seen_in s) before) now l)
+    → IfSome told (λ files. now.lower ≤ before.lower + due s.options j.repo (folders_of (look_of (edited files s.edits))) s.edits (seen_in s))
+few_in s told before now l j = by told j.found j.few
+  where
+    by : (told : Option FileMap) → IsFound s.edits told l.loaded → IfSome told (λ files. now.lower ≤ before.lower + due s.options j.repo l.loaded.folders s.edits (seen_in s))
+        → IfSome told (λ files. now.lower ≤ before.lower + due s.options j.repo (folders_of (look_of (edited files s.edits))) s.edits (seen_in s))
+    by None found few = tt
+    by (Some files) found few = subst (λ (f : Folders). now.lower ≤ before.lower + due s.options j.repo f s.edits (seen_in s)) (found_at s.edits files l.loaded found).1 few
+
 pub is_report : PickedLaw → (s : State) (told : Option FileMap) (before now : Counts) (l : Last) (text : List ℕ) → IsJudgedFor (outset s.options s.edits told (seen_in s) before) now l
     → text ≡ emitted s.options l.reports → IsReport s told before now text
 is_report law s told before now l text j made = record {
   repo = j.repo;
   loaded = j.loaded;
-  bodies = from_part j.repo l.repo j.but j.bodies;
+  bodies = from_part j.repo l.loaded.repo j.but j.bodies;
   order = subst AreInPackageOrder (sym j.but.pkgs) j.order;
   judged = record { within = j.within; text_is = text_is law s.options j.repo l.reports text j.reports made; lowered = j.lowered };
-  few = j.few;
+  few = few_in s told before now l j;
 }
 
 pub agrees_after : (options : Options) (edits : List Edit) (told : Option FileMap) (seen : Option ℕ) (before now : Counts) (l : Last) → IsJudgedFor (outset options edits told seen before) now l
@@ -61,7 +75,7 @@ agrees_after options edits told seen before now l j = record {
   classless = j.classless;
   few = subst (λ n. n ≤ length edits) (sym j.seen) (omega (arith));
   loaded = subst (λ es. IsLoaded es told j.repo) (sym (ap (λ n. take n edits) j.seen ∙ take_all edits)) j.loaded;
-  found = subst (λ es. IsFound es told l.found) (sym (ap (λ n. take n edits) j.seen ∙ take_all edits)) j.found;
+  found = subst (λ es. IsFound es told l.loaded) (sym (ap (λ n. take n edits) j.seen ∙ take_all edits)) j.found;
   within = j.within;
   reports = j.reports;
   mentioned = j.mentioned;
@@ -81,7 +95,7 @@ agrees_with s edit told agrees = by s.last agrees
       classless = kept.classless;
       few = at_most (length s.edits) (length (s.edits ++ edit ∷ [])) l.seen kept.few (length-append s.edits (edit ∷ []));
       loaded = subst (λ es. IsLoaded es told kept.repo) (sym (take-append-le l.seen s.edits (edit ∷ []) kept.few)) kept.loaded;
-      found = subst (λ es. IsFound es told l.found) (sym (take-append-le l.seen s.edits (edit ∷ []) kept.few)) kept.found;
+      found = subst (λ es. IsFound es told l.loaded) (sym (take-append-le l.seen s.edits (edit ∷ []) kept.few)) kept.found;
       within = kept.within;
       reports = kept.reports;
       mentioned = kept.mentioned;

@@ -5,7 +5,7 @@ use Rattle.std.proofs.lemmas.Bool.{false≢true}
 use Rattle.std.specs.List.{list_all}
 use Rattle.gv_edits.specs.Edits.{edit_path}
 use Rattle.gv_edits.specs.declared.edit.Edit.{Edit}
-use Rattle.gv_load.specs.declared.loading.Repo.{Repo}
+use Rattle.gv_load.specs.declared.loading.Folders.{Folders}
 use Rattle.gv_session.specs.Due.{is_small, new_paths}
 use Rattle.gv_session.specs.Small.{AreSmall, AreUpTo}
 
@@ -37,25 +37,25 @@ next_from edits n path e = next_path edits n path e ∙ ap (λ m. path ∷ new_p
     one_behind : (n : ℕ) → suc n ≡ n + 1
     one_behind n = omega (arith)
 
-module _ (repo : Repo) (edits : List Edit) (seen : ℕ) where
-  pub none_yet : AreUpTo repo edits seen seen []
+module _ (folders : Folders) (edits : List Edit) (seen : ℕ) where
+  pub none_yet : AreUpTo folders edits seen seen []
   none_yet = record { paths = refl; small = refl }
 
-  module _ (place : ℕ) (these : List (List ℕ)) (up : AreUpTo repo edits seen place these) where
+  module _ (place : ℕ) (these : List (List ℕ)) (up : AreUpTo folders edits seen place these) where
     module _ (path : List ℕ) (here : option_map edit_path (slice_get edits place) ≡ Some path) where
-      first : list_all (is_small repo) (new_paths edits seen) ≡ (is_small repo path && list_all (is_small repo) (new_paths edits (place + 1)))
-      first = sym up.small ∙ ap (list_all (is_small repo)) (next_from edits place path here)
+      first : list_all (is_small folders) (new_paths edits seen) ≡ (is_small folders path && list_all (is_small folders) (new_paths edits (place + 1)))
+      first = sym up.small ∙ ap (list_all (is_small folders)) (next_from edits place path here)
 
-      pub one_more : is_small repo path ≡ true → AreUpTo repo edits seen (place + 1) (these ++ path ∷ [])
+      pub one_more : is_small folders path ≡ true → AreUpTo folders edits seen (place + 1) (these ++ path ∷ [])
       one_more small = record {
         paths = append_assoc these (path ∷ []) (new_paths edits (place + 1)) ∙ ap (λ ps. these ++ ps) (sym (next_from edits place path here)) ∙ up.paths;
-        small = sym (first ∙ ap (λ b. b && list_all (is_small repo) (new_paths edits (place + 1))) small);
+        small = sym (first ∙ ap (λ b. b && list_all (is_small folders) (new_paths edits (place + 1))) small);
       }
 
-      pub one_large : is_small repo path ≡ false → AreSmall repo (new_paths edits seen) None
-      one_large large = first ∙ ap (λ b. b && list_all (is_small repo) (new_paths edits (place + 1))) large
+      pub one_large : is_small folders path ≡ false → AreSmall folders (new_paths edits seen) None
+      one_large large = first ∙ ap (λ b. b && list_all (is_small folders) (new_paths edits (place + 1))) large
 
-    pub all_small : length edits ≤ place → AreSmall repo (new_paths edits seen) (Some these)
+    pub all_small : length edits ≤ place → AreSmall folders (new_paths edits seen) (Some these)
     all_small end_ =
         let none = none_left edits place end_ in
-        (sym (append-nil these) ∙ ap (λ ps. these ++ ps) (sym none) ∙ up.paths, sym up.small ∙ ap (list_all (is_small repo)) none)
+        (sym (append-nil these) ∙ ap (λ ps. these ++ ps) (sym none) ∙ up.paths, sym up.small ∙ ap (list_all (is_small folders)) none)

@@ -11,6 +11,7 @@ use Rattle.gv_base.specs.FileMap.{FileMap}
 use Rattle.gv_edits.specs.declared.edit.Edit.{Edit}
 use Rattle.gv_load.specs.Repository.{AreClassless, AreInPackageOrder}
 use Rattle.gv_reload.specs.EntryEdits.{IsAllBut}
+use Rattle.gv_load.specs.declared.loading.Loaded.{Loaded}
 use Rattle.gv_load.specs.declared.loading.Repo.{Repo}
 use Rattle.gv_report.specs.declared.options.Options.{Options}
 use Rattle.gv_checks.specs.Limits.{IsWithin}
@@ -37,18 +38,18 @@ outset options edits told seen before = record { options = options; edits = edit
 -- the reports of a repository of the edited files; what is left is so of all edits; and no more was lowered than is due
 pub record IsJudgedFor (o : Outset) (now : Counts) (l : Last) : Type 0 where
   pub repo : Repo
-  pub but : IsAllBut l.repo repo
-  pub bodies : length l.repo.bodies ≡ length l.repo.pkgs
-  pub order : AreInPackageOrder l.repo.pkgs
+  pub but : IsAllBut l.loaded.repo repo
+  pub bodies : length l.loaded.repo.bodies ≡ length l.loaded.repo.pkgs
+  pub order : AreInPackageOrder l.loaded.repo.pkgs
   pub classless : AreClassless repo.notes
   pub loaded : IsLoaded o.edits o.told repo
-  pub found : IsFound o.edits o.told l.found
+  pub found : IsFound o.edits o.told l.loaded
   pub seen : l.seen ≡ length o.edits
   pub within : AllByRecursion IsWithin (queries o.options repo)
   pub reports : l.reports ≡ scan_reports o.options repo
-  pub mentioned : l.mentioned ≡ l.repo.bodies
+  pub mentioned : l.mentioned ≡ l.loaded.repo.bodies
   pub lowered : now.lower ≤ o.before.lower + length (queries o.options repo)
-  pub few : IfSome o.told (λ files. now.lower ≤ o.before.lower + due o.options repo o.edits o.seen)
+  pub few : IfSome o.told (λ files. now.lower ≤ o.before.lower + due o.options repo l.loaded.folders o.edits o.seen)
 
 -- why there are none
 abbrev pub IsRefusedFor : Outset → (tree_before tree_now : ℕ) → (now : Counts) → SessionFault → Type 0
@@ -59,30 +60,27 @@ abbrev pub seen_by : Option Last → Option ℕ
 seen_by last = option_map (λ (l : Last). l.seen) last
 
 -- the reports of this very repository, all judged anew
-pub record IsAnew (options : Options) (repo : Repo) (most : ℕ) (edits : List Edit) (before now : Counts) (l : Last) : Type 0 where
-  pub repo_is : l.repo ≡ repo
-  pub found : l.found ≡ most
+pub record IsAnew (options : Options) (whole : Loaded) (edits : List Edit) (before now : Counts) (l : Last) : Type 0 where
+  pub loaded_is : l.loaded ≡ whole
   pub seen : l.seen ≡ length edits
-  pub within : AllByRecursion IsWithin (queries options repo)
-  pub reports : l.reports ≡ scan_reports options repo
-  pub mentioned : l.mentioned ≡ repo.bodies
-  pub lowered : now.lower ≤ before.lower + length (queries options repo)
+  pub within : AllByRecursion IsWithin (queries options whole.repo)
+  pub reports : l.reports ≡ scan_reports options whole.repo
+  pub mentioned : l.mentioned ≡ whole.repo.bodies
+  pub lowered : now.lower ≤ before.lower + length (queries options whole.repo)
 
 -- those of the repository that the files with the edits load to, all judged anew
 pub record IsAll (options : Options) (edits : List Edit) (told : Option FileMap) (before now : Counts) (l : Last) : Type 0 where
-  pub repo : Repo
-  pub most : ℕ
-  pub loaded : IsLoaded edits told repo
-  pub found : IsFound edits told most
-  pub bodies : length repo.bodies ≡ length repo.pkgs
-  pub order : AreInPackageOrder repo.pkgs
-  pub classless : AreClassless repo.notes
-  pub anew : IsAnew options repo most edits before now l
+  pub whole : Loaded
+  pub loaded : IsLoaded edits told whole.repo
+  pub found : IsFound edits told whole
+  pub bodies : length whole.repo.bodies ≡ length whole.repo.pkgs
+  pub order : AreInPackageOrder whole.repo.pkgs
+  pub classless : AreClassless whole.repo.notes
+  pub anew : IsAnew options whole edits before now l
 
 -- the reports of a whole repository of which this is a part, of which those that are due were judged
-pub record IsAgain (options : Options) (paths : List (List ℕ)) (part whole : Repo) (most : ℕ) (edits : List Edit) (before now : Counts) (l : Last) : Type 0 where
-  pub repo_is : l.repo ≡ part
-  pub found : l.found ≡ most
+pub record IsAgain (options : Options) (paths : List (List ℕ)) (part : Loaded) (whole : Repo) (edits : List Edit) (before now : Counts) (l : Last) : Type 0 where
+  pub loaded_is : l.loaded ≡ part
   pub seen : l.seen ≡ length edits
   pub renewed : IsRenewed options paths whole before now l.reports
-  pub mentioned : l.mentioned ≡ part.bodies
+  pub mentioned : l.mentioned ≡ part.repo.bodies

@@ -8,14 +8,15 @@ use Rattle.std.specs.List.{AllByRecursion}
 use Rattle.gv_base.specs.Causes.{Rose}
 use Rattle.gv_base.specs.Counts.{Counts}
 use Rattle.gv_base.specs.FileMap.{FileMap}
-use Rattle.gv_edits.specs.Edits.{edited_told}
+use Rattle.gv_edits.specs.Edits.{edited, edited_told}
 use Rattle.gv_edits.specs.declared.edit.Edit.{Edit}
 use Rattle.gv_load.specs.Loading.{PassesWithin, loading}
-use Rattle.gv_load.specs.Repository.{AreClassless, AreInPackageOrder}
+use Rattle.gv_load.specs.Repository.{AreClassless, AreInPackageOrder, folders_of}
 use Rattle.gv_reload.specs.EntryEdits.{IsAllBut}
 use Rattle.gv_reading.specs.Look.{look_of}
 use Rattle.gv_reading.specs.declared.faults.LoadFault.{LoadFault}
 use Rattle.gv_reading.specs.declared.faults.LoadFault.TheVariants as loads
+use Rattle.gv_load.specs.declared.loading.Loaded.{Loaded}
 use Rattle.gv_load.specs.declared.loading.Repo.{Repo}
 use Rattle.gv_report.specs.declared.options.Options.{Options}
 use Rattle.gv_checks.specs.Limits.{IsWithin, Refuses}
@@ -45,9 +46,9 @@ with_edit s edit = record { options = s.options; edits = s.edits ++ edit ∷ [];
 abbrev pub IsLoaded : List Edit → (told : Option FileMap) → Repo → Type 0
 IsLoaded edits told repo = IfSome (edited_told told edits) (λ files. loading (look_of files) ≡ Ok repo)
 
--- loading them passes, and finds no more files than that, where they are told
-abbrev pub IsFound : List Edit → (told : Option FileMap) → (most : ℕ) → Type 0
-IsFound edits told most = IfSome (edited_told told edits) (λ files. PassesWithin files most)
+-- loading them passes, and finds no more files than that, and these folders, where they are told
+abbrev pub IsFound : List Edit → (told : Option FileMap) → Loaded → Type 0
+IsFound edits told loaded = IfSome (edited_told told edits) (λ files. PassesWithin files loaded.found × (loaded.folders ≡ folders_of (look_of files)))
 
 -- loading them is refused so, where they are told
 abbrev pub IsUnloaded : List Edit → (told : Option FileMap) → LoadFault → Type 0
@@ -67,23 +68,23 @@ pub record IsReport (s : State) (told : Option FileMap) (before now : Counts) (t
   pub bodies : length repo.bodies ≡ length repo.pkgs
   pub order : AreInPackageOrder repo.pkgs
   pub judged : IsJudgedText s.options repo before now text
-  pub few : IfSome told (λ files. now.lower ≤ before.lower + due s.options repo s.edits (seen_in s))
+  pub few : IfSome told (λ files. now.lower ≤ before.lower + due s.options repo (folders_of (look_of (edited files s.edits))) s.edits (seen_in s))
 
--- what a report left is so of the files with the edits that it saw: the repository that is kept is theirs but for its notes, so many
--- files are found at most, each of its queries was within the limits, the reports are those of its scan, and the mentioned names are
+-- what a report left is so of the files with the edits that it saw: the repository that is kept is theirs but for its notes, so are the
+-- folders, so many files are found at most, each of its queries was within the limits, the reports are those of its scan, and the mentioned names are
 -- those of its packages
 pub record IsLast (options : Options) (edits : List Edit) (told : Option FileMap) (l : Last) : Type 0 where
   pub repo : Repo
-  pub but : IsAllBut l.repo repo
-  pub bodies : length l.repo.bodies ≡ length l.repo.pkgs
-  pub order : AreInPackageOrder l.repo.pkgs
+  pub but : IsAllBut l.loaded.repo repo
+  pub bodies : length l.loaded.repo.bodies ≡ length l.loaded.repo.pkgs
+  pub order : AreInPackageOrder l.loaded.repo.pkgs
   pub classless : AreClassless repo.notes
   pub few : l.seen ≤ length edits
   pub loaded : IsLoaded (take l.seen edits) told repo
-  pub found : IsFound (take l.seen edits) told l.found
+  pub found : IsFound (take l.seen edits) told l.loaded
   pub within : AllByRecursion IsWithin (queries options repo)
   pub reports : l.reports ≡ scan_reports options repo
-  pub mentioned : l.mentioned ≡ l.repo.bodies
+  pub mentioned : l.mentioned ≡ l.loaded.repo.bodies
 
 -- what a session keeps is so of these files
 abbrev pub Agrees : (told : Option FileMap) → State → Type 0

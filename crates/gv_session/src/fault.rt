@@ -1,7 +1,8 @@
 //! Why there is no report.
-ghost use Rattle.gv_session.specs.Handing.{HandsJudge, HandsLoad};
+ghost use Rattle.std.specs.Prelude.{◌≡◌};
+ghost use Rattle.gv_session.specs.Handing.{HandsJudge, HandsLoad, failed_at};
 
-use gv_base::NoMemory;
+use gv_base::{NoMemory, Text};
 use gv_checks::JudgeFault;
 use gv_load::{LoadFault, Repo};
 
@@ -24,6 +25,20 @@ impl From<NoMemory> for SessionFault {
 
     fn from(_refused: NoMemory) -> SessionFault {
         SessionFault::NoMemory
+    }
+}
+
+/// The same fault. Where calls of the tree below failed it is told at the path of the last of them, else at its own.
+pub(crate) fn failed_at(failed: Option<Text>, fault: LoadFault) -> LoadFault
+    ensures { result ≡ failed_at failed fault }
+{
+    match fault {
+        LoadFault::Tree { path } => LoadFault::Tree {
+            path: failed.unwrap_or(path),
+        },
+        LoadFault::NotARepository { path } => LoadFault::NotARepository { path },
+        LoadFault::Limit { place, number } => LoadFault::Limit { place, number },
+        LoadFault::NoMemory => LoadFault::NoMemory,
     }
 }
 

@@ -22,7 +22,7 @@ use gv_base::{Ledger, Steps, Tree};
 use gv_cert::Known;
 use gv_checks::{Judged, judge};
 use gv_edits::Edits;
-use gv_load::{Loaded, Repo};
+use gv_load::Loaded;
 use gv_reload::{Changed, EntryEdits, Reread, entries_law, with_entries};
 use gv_renew::{Mentioned, renew};
 use gv_report::{Options, Reports, ordered_law};
@@ -55,7 +55,7 @@ pub(crate) fn judge_edited<T: Tree, L: Ledger>(
     if last.seen >= edits.len() {
         return Ok(last);
     }
-    let Some(entries) = small_edits(alloc, &last.repo, edits, last.seen)? else {
+    let Some(entries) = small_edits(alloc, &last.loaded.folders, edits, last.seen)? else {
         return judge_all(alloc, tree, edits, options, steps);
     };
     judge_small(alloc, last, &entries, tree, edits, options, steps)
@@ -96,7 +96,7 @@ fn judge_small<T: Tree, L: Ledger>(
     steps: &mut Steps<L>,
 ) -> Result<Last, SessionFault>
     requires last { IsLast options.now edits.now (T.files tree.old) last }
-    requires small { AreSmall last.repo (new_paths edits.now last.seen) (Some entries.now) }
+    requires small { AreSmall last.loaded.folders (new_paths edits.now last.seen) (Some entries.now) }
     requires some { last.seen < length edits.now }
     ensures judged { IfOk result (IsJudgedFor (outset options.now edits.now (T.files tree.old) (Some last.seen) steps.old) steps.new) }
     ensures cause { IfErr result (IsRefusedFor (outset options.now edits.now (T.files tree.old) (Some last.seen) steps.old) (T.faults tree.old) (T.faults tree.new) steps.new) }
@@ -109,22 +109,20 @@ fn judge_small<T: Tree, L: Ledger>(
     ordered_law();
     let Last {
         seen,
-        repo: old,
-        found,
+        loaded: old,
         reports,
         mentioned,
     } = last;
-    let kept = mentioned.without(alloc, &old, entries)?;
-    match reread_edited(alloc, tree, edits, old, found, entries) {
-        Ok(Reread::Done { repo, found }) => judge_again(
-            alloc, reports, kept, repo, found, entries, edits, options, steps,
+    let kept = mentioned.without(alloc, &old.repo, entries)?;
+    match reread_edited(alloc, tree, edits, old, entries) {
+        Ok(Reread::Done { loaded }) => judge_again(
+            alloc, reports, kept, loaded, entries, edits, options, steps,
         ),
-        Ok(Reread::Unclear { repo }) => {
-            let mentioned = kept.with(alloc, &repo, entries)?;
+        Ok(Reread::Unclear { loaded }) => {
+            let mentioned = kept.with(alloc, &loaded.repo, entries)?;
             let last = Last {
                 seen,
-                repo,
-                found,
+                loaded,
                 reports,
                 mentioned,
             };
@@ -146,7 +144,7 @@ fn judge_loaded<T: Tree, L: Ledger>(
     steps: &mut Steps<L>,
 ) -> Result<Last, SessionFault>
     requires last { IsLast options.now edits.now (T.files tree.old) last }
-    requires small { AreSmall last.repo (new_paths edits.now last.seen) (Some entries.now) }
+    requires small { AreSmall last.loaded.folders (new_paths edits.now last.seen) (Some entries.now) }
     requires some { last.seen < length edits.now }
     ensures judged { IfOk result (IsJudgedFor (outset options.now edits.now (T.files tree.old) (Some last.seen) steps.old) steps.new) }
     ensures cause { IfErr result (IsRefusedFor (outset options.now edits.now (T.files tree.old) (Some last.seen) steps.old) (T.faults tree.old) (T.faults tree.new) steps.new) }
@@ -158,25 +156,37 @@ fn judge_loaded<T: Tree, L: Ledger>(
 {
     entries_law();
     ordered_law();
-    let Loaded { repo, found } = match load_edited(alloc, tree, edits) {
+    let Last {
+        loaded: old,
+        reports,
+        mentioned,
+        ..
+    } = last;
+    let Loaded {
+        repo,
+        folders,
+        found,
+    } = match load_edited(alloc, tree, edits) {
         Ok(loaded) => loaded,
         Err(fault) => return Err(load_fault(fault)),
     };
-    let kept = last.mentioned.without(alloc, &last.repo, entries)?;
-    match with_entries(alloc, last.repo, repo, entries)? {
-        Changed::Part { repo } => judge_again(
-            alloc,
-            last.reports,
-            kept,
-            repo,
-            found,
-            entries,
-            edits,
-            options,
-            steps,
-        ),
+    let kept = mentioned.without(alloc, &old.repo, entries)?;
+    match with_entries(alloc, old.repo, repo, entries)? {
+        Changed::Part { repo } => {
+            let loaded = Loaded {
+                repo,
+                folders,
+                found,
+            };
+            judge_again(alloc, reports, kept, loaded, entries, edits, options, steps)
+        }
         Changed::Other { repo } => {
-            judge_anew(alloc, Loaded { repo, found }, edits, options, steps)
+            let loaded = Loaded {
+                repo,
+                folders,
+                found,
+            };
+            judge_anew(alloc, loaded, edits, options, steps)
         }
     }
 }
@@ -189,27 +199,25 @@ fn judge_anew<L: Ledger>(
     options: &Options,
     steps: &mut Steps<L>,
 ) -> Result<Last, SessionFault>
-    ensures judged { IfOk result (IsAnew options.now loaded.repo loaded.found edits.now steps.old steps.new) }
+    ensures judged { IfOk result (IsAnew options.now loaded edits.now steps.old steps.new) }
     ensures cause { IfErr result (JudgeCause options.now loaded.repo) }
 {
-    let Loaded { repo, found } = loaded;
-    match judge(alloc, &repo, options, &Known::new(alloc), steps) {
+    match judge(alloc, &loaded.repo, options, &Known::new(alloc), steps) {
         Ok(judged) => {
             let Judged {
                 reports,
                 certs: _,
                 queries: _,
             } = judged;
-            let mentioned = Mentioned::of(alloc, &repo)?;
+            let mentioned = Mentioned::of(alloc, &loaded.repo)?;
             Ok(Last {
                 seen: edits.len(),
-                repo,
-                found,
+                loaded,
                 reports,
                 mentioned,
             })
         }
-        Err(fault) => Err(judge_fault(fault, repo)),
+        Err(fault) => Err(judge_fault(fault, loaded.repo)),
     }
 }
 
@@ -218,32 +226,38 @@ fn judge_again<L: Ledger>(
     alloc: Global,
     before: Reports,
     kept: Mentioned,
-    repo: Repo,
-    found: u64,
+    loaded: Loaded,
     entries: &EntryEdits,
     edits: &Edits,
     options: &Options,
     steps: &mut Steps<L>,
 ) -> Result<Last, SessionFault>
-    requires bodies { length repo.bodies ≡ length repo.pkgs }
-    requires order { AreInPackageOrder repo.pkgs }
-    requires kept { kept ≡ other_bodies entries.now repo }
+    requires bodies { length loaded.repo.bodies ≡ length loaded.repo.pkgs }
+    requires order { AreInPackageOrder loaded.repo.pkgs }
+    requires kept { kept ≡ other_bodies entries.now loaded.repo }
     requires before { ordered before ≡ before }
-    ensures judged { (whole : Repo) → IsPartOf entries.now repo whole → AreOfBefore options.now entries.now whole before
-        → IfOk result (IsAgain options.now entries.now repo whole found edits.now steps.old steps.new) }
-    ensures cause { (whole : Repo) → IsPartOf entries.now repo whole → AreOfBefore options.now entries.now whole before → IfErr result (JudgeCause options.now whole) }
+    ensures judged { (whole : Repo) → IsPartOf entries.now loaded.repo whole → AreOfBefore options.now entries.now whole before
+        → IfOk result (IsAgain options.now entries.now loaded whole edits.now steps.old steps.new) }
+    ensures cause { (whole : Repo) → IsPartOf entries.now loaded.repo whole → AreOfBefore options.now entries.now whole before → IfErr result (JudgeCause options.now whole) }
 {
-    let Ok(mentioned) = kept.with(alloc, &repo, entries) else {
+    let Ok(mentioned) = kept.with(alloc, &loaded.repo, entries) else {
         return Err(SessionFault::NoMemory);
     };
-    match renew(alloc, &repo, options, entries, &mentioned, before, steps) {
+    match renew(
+        alloc,
+        &loaded.repo,
+        options,
+        entries,
+        &mentioned,
+        before,
+        steps,
+    ) {
         Ok(reports) => Ok(Last {
             seen: edits.len(),
-            repo,
-            found,
+            loaded,
             reports,
             mentioned,
         }),
-        Err(fault) => Err(judge_fault(fault, repo)),
+        Err(fault) => Err(judge_fault(fault, loaded.repo)),
     }
 }

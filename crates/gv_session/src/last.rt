@@ -1,6 +1,6 @@
 //! What a report leaves for the next one.
 
-use gv_load::Repo;
+use gv_load::Loaded;
 use gv_renew::Mentioned;
 use gv_report::Reports;
 
@@ -9,10 +9,9 @@ use gv_report::Reports;
 pub struct Last {
     /// How many edits it saw.
     pub seen: usize,
-    /// The repository of the files with these edits. Of its notes some may be missing.
-    pub repo: Repo,
-    /// How many files a load of them finds at most.
-    pub found: u64,
+    /// The repository of the files with these edits, their folders, and how many files a load of them finds at most. Of the notes
+    /// some may be missing.
+    pub loaded: Loaded,
     /// The reports of its scan, in order.
     pub reports: Reports,
     /// The names that the repository's packages mention.

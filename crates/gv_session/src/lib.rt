@@ -8,9 +8,10 @@
 //! alone a report reads these, judges their packages and the classes with an atom of their names, and takes all else over from the
 //! last one; else it loads and judges all.
 //!
-//! The crate stands on `gv_edits` for the tree with edits over it, on `gv_load` and `gv_checks` for the repository and its
-//! reports, on `gv_renew` for those after edits of entries, and on `gv_report` for their text. The layer above uses the contract of `Session::report`: the text is that of a
-//! scan of the edited files, and no more queries are lowered than are due.
+//! The crate stands on `gv_edits` for the tree with edits over it, on `gv_views` for the path of the call that failed, on `gv_load` and
+//! `gv_checks` for the repository and its reports, on `gv_renew` for those after edits of entries, and on `gv_report` for their text.
+//! The layer above uses the contract of `Session::report`: the text is that of a scan of the edited files, and no more queries are
+//! lowered than are due.
 #![tactic(auto)]
 
 mod fault;

@@ -8,7 +8,7 @@ ghost use Rattle.gv_session.specs.Small.{AreSmall};
 
 use gv_base::{NoMemory, Text, Texts};
 use gv_edits::Edits;
-use gv_load::Repo;
+use gv_load::Folders;
 use gv_reload::{EntryEdits, is_entry, is_in_metadata};
 use std::alloc::Global;
 
@@ -16,19 +16,19 @@ use std::alloc::Global;
 #[tactic(auto, using(crate::proofs::SmallLemmas::none_yet, crate::proofs::SmallLemmas::one_more, crate::proofs::SmallLemmas::one_large, crate::proofs::SmallLemmas::all_small, crate::proofs::SmallLemmas::not_there))]
 pub(crate) fn small_edits(
     alloc: Global,
-    repo: &Repo,
+    folders: &Folders,
     edits: &Edits,
     seen: usize,
 ) -> Result<Option<EntryEdits>, NoMemory>
-    ensures { IfOk result (AreSmall repo.now (new_paths edits.now seen)) }
+    ensures { IfOk result (AreSmall folders.now (new_paths edits.now seen)) }
 {
-    let apart = !some_in_metadata(&repo.directories);
+    let apart = !some_in_metadata(&folders.directories);
     let mut entries = EntryEdits::new(alloc);
     for place in seen..edits.len() {
         let Some(path) = edits.path(place) else {
             unreachable!()
         };
-        if !is_small(repo, apart, path)? {
+        if !is_small(folders, apart, path)? {
             return Ok(None);
         }
         entries.add(alloc, path)?;
@@ -47,9 +47,9 @@ fn some_in_metadata(directories: &Texts) -> bool
     false
 }
 
-fn is_small(repo: &Repo, apart: bool, path: &Text) -> Result<bool, NoMemory>
-    requires { apart ≡ not (list_any is_in_metadata repo.now.directories) }
-    ensures { IfOk result (λ small. small ≡ is_small repo.now path.now) }
+fn is_small(folders: &Folders, apart: bool, path: &Text) -> Result<bool, NoMemory>
+    requires { apart ≡ not (list_any is_in_metadata folders.now.directories) }
+    ensures { IfOk result (λ small. small ≡ is_small folders.now path.now) }
 {
-    Ok(is_entry(&repo.categories, path)? && apart)
+    Ok(is_entry(&folders.categories, path)? && apart)
 }

@@ -14,7 +14,7 @@ returns-in_default-2-clause-judged g c =
     IfOk-weaker c.judge_all-in_default-2.result _ (IsJudgedFor o c.judge_all-in_default-2.new.steps)
     (λ new is. all_large c.entries_law.ensures o c.in-Some.last c.judge_all-in_default-2.new.steps new (ap seen_by c.in-Some.is)
     (subst (λ l. IfSome l (IsLast c.args.options.now c.args.edits.now (g.T.Tree.files c.args.tree.now))) c.in-Some.is c.requires.last)
-    (subst (AreSmall c.in-Some.last.repo (new_paths c.args.edits.now c.in-Some.last.seen)) c.in_default-2.is c.in_ok-entries.ensures) is) c.judge_all-in_default-2.ensures.judged
+    (subst (AreSmall c.in-Some.last.loaded.folders (new_paths c.args.edits.now c.in-Some.last.seen)) c.in_default-2.is c.in_ok-entries.ensures) is) c.judge_all-in_default-2.ensures.judged
 
 pub returns-then-last-len-clause-judged : goal.returns-then-last-len-clause-judged
 returns-then-last-len-clause-judged g c =

@@ -7,8 +7,8 @@ pub loop-place-preserved : goal.loop-place-preserved
 loop-place-preserved c = record {
   apart = c.loop-place.invariant.apart;
   up =
-      subst (AreUpTo c.args.repo.now c.args.edits.now c.args.seen (c.loop-place.place + 1)) (sym c.in_ok-add.ensures.ok)
-      (one_more c.args.repo.now c.args.edits.now c.args.seen c.loop-place.place c.loop-place.entries c.loop-place.invariant.up c.in-Some.path.now (sym c.in-Some.ensures)
+      subst (AreUpTo c.args.folders.now c.args.edits.now c.args.seen (c.loop-place.place + 1)) (sym c.in_ok-add.ensures.ok)
+      (one_more c.args.folders.now c.args.edits.now c.args.seen c.loop-place.place c.loop-place.entries c.loop-place.invariant.up c.in-Some.path.now (sym c.in-Some.ensures)
       (sym c.in_ok-is_small.ensures ∙ c.if-not-branch.false));
   end = c.loop-place.invariant.end;
 }

@@ -6,7 +6,7 @@ use Rattle.gv_session.proofs.small.small_edits.Given as goal
 
 abbrev pub invariant-loop-place : goal.invariant-loop-place
 invariant-loop-place l = record {
-  apart : l.apart ≡ not (list_any is_in_metadata l.repo.directories);
-  up : AreUpTo l.repo l.edits l.fn.seen l.place l.entries;
+  apart : l.apart ≡ not (list_any is_in_metadata l.folders.directories);
+  up : AreUpTo l.folders l.edits l.fn.seen l.place l.entries;
   end : l.place-end ≡ length l.edits;
 }
