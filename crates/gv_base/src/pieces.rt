@@ -1,10 +1,10 @@
 //! A text cut into pieces: lines, words, tokens or the parts of a path.
 //!
 //! `next_piece` costs the bytes of the piece that it takes off, so a text is cut in O(its bytes); nothing is copied. `until` costs the
-//! bytes that it gives back.
-ghost use Rattle.std.specs.Prelude.{◌≡◌, ◌==◌, ◌∷◌, ◌≤◌, [], not, length, IfNone, MatchOption};
+//! bytes that it gives back, `after_prefix` those of the prefix.
+ghost use Rattle.std.specs.Prelude.{◌≡◌, ◌≢◌, ◌==◌, ◌∷◌, ◌++◌, ◌≤◌, ℕ, List, [], None, Some, not, length, IfNone, MatchOption};
 ghost use Rattle.std.specs.List.{position_or_len, prefix_len};
-ghost use Rattle.gv_base.specs.Cut.{up_to_first};
+ghost use Rattle.gv_base.specs.Cut.{after_prefix, up_to_first};
 ghost use Rattle.gv_base.specs.Pieces.{is_blank, separates, pieces, left};
 
 /// What a text is cut by.
@@ -41,6 +41,14 @@ pub fn until(bytes: &[u8], byte: u8) -> &[u8]
     ensures { result.now ≡ up_to_first byte bytes.now }
 {
     &bytes[..first_place(bytes, byte)]
+}
+
+/// What follows the prefix, where the bytes begin with it.
+pub fn after_prefix<'a>(prefix: &[u8], bytes: &'a [u8]) -> Option<&'a [u8]>
+    ensures after { MatchOption result (after_prefix prefix.now bytes.now ≡ None) (λ rest. after_prefix prefix.now bytes.now ≡ Some rest.now) }
+    ensures cut { MatchOption result ((rest : List ℕ) → bytes.now ≢ prefix.now ++ rest) (λ rest. bytes.now ≡ prefix.now ++ rest.now) }
+{
+    bytes.strip_prefix(prefix)
 }
 
 // Where the first such byte is, or the length.

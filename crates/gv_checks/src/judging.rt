@@ -26,7 +26,7 @@ use crate::spot::Spot;
 use crate::used::Used;
 use crate::walking::Errand;
 use crate::{JudgeFault, QueryName, QueryNames};
-use gv_base::{Ledger, NoMemory, Steps, Text};
+use gv_base::{Ledger, NoMemory, Steps, Text, next_number};
 use gv_facts::{Class, Context, Pkg, has_class};
 use gv_lower::{LowerFault, Query};
 use gv_plain::{JudgedPkg, is_told, is_whole};
@@ -41,16 +41,6 @@ pub(crate) struct Progress {
     pub(crate) used: Used,
     pub(crate) reports: Reports,
     pub(crate) queries: u32,
-}
-
-/// The next number. A list has room for fewer than 2^32 items; a longer one finds no memory.
-pub(crate) fn next_number(number: u32) -> Result<u32, NoMemory>
-    ensures { IfOk result (λ next. next ≡ number + 1) }
-{
-    match number.checked_add(1) {
-        Some(next) => Ok(next),
-        None => Err(NoMemory),
-    }
 }
 
 pub(crate) fn name_of(judged: &JudgedPkg<'_>, class: Class) -> QueryName

@@ -11,11 +11,10 @@ ghost use Rattle.gv_checks.specs.Recalled.{NotRecalls, Recalls};
 
 use crate::JudgeFault;
 use crate::chosen::{Asking, Chosen};
-use crate::judging::next_number;
 use crate::walk::Walk;
 use crate::walking::{Answers, Stopped};
 use crate::whole::all_reports;
-use gv_base::{Ledger, NoMemory, Steps, Text};
+use gv_base::{Ledger, NoMemory, Steps, Text, next_number};
 use gv_cert::Known;
 use gv_load::Repo;
 use gv_plain::told_law;

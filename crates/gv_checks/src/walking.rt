@@ -21,14 +21,14 @@ ghost use Rattle.gv_plain.specs.Seen.{seen};
 ghost use Rattle.gv_checks.specs.Walks.{Goes};
 
 use crate::chosen::Asking;
-use crate::judging::{Progress, add_names, is_asked, judge_query, next_number};
+use crate::judging::{Progress, add_names, is_asked, judge_query};
 use crate::keys::{PkgSites, make_required_key};
 use crate::shared::Shared;
 use crate::spot::Spot;
 use crate::used::Used;
 use crate::walk::Walk;
 use crate::{JudgeFault, QueryNames};
-use gv_base::{Ledger, NoMemory, Steps};
+use gv_base::{Ledger, NoMemory, Steps, next_number};
 use gv_cert::Known;
 use gv_entry::Body;
 use gv_facts::{Class, Pkg, Profile};

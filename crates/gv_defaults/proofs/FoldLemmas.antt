@@ -14,11 +14,6 @@ use Rattle.gv_defaults.specs.Incremental.{with_word, with_words}
 use Rattle.gv_defaults.specs.Lasting.{removes, removed_by, adds, lasting, with_once, from_last}
 use Rattle.gv_defaults.specs.Passed.{takes, HasPassed}
 
--- a key of the set is one of its texts
-pub has_key : (keys : List (List ℕ)) (text : List ℕ) → list_any (is_at (byte_cmp text)) keys ≡ has_text keys text
-has_key [] text = refl
-has_key (key ∷ keys) text = rw (is_eq-slice_cmp text key, has_key keys text) refl
-
 pub swapped : (a b c : Bool) → (a || (b || c)) ≡ (b || (a || c))
 swapped true true c = refl
 swapped true false c = refl

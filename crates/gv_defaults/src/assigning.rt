@@ -12,7 +12,7 @@ use crate::Vars;
 use crate::items::{Item, first_item};
 use crate::meaning::meaning;
 use crate::room::MAX_BYTES;
-use gv_base::{NoMemory, Text, map_law};
+use gv_base::{NoMemory, Text, map_law, next_number};
 use std::alloc::Global;
 use std::collections::BTreeMap;
 
@@ -117,8 +117,5 @@ fn line_after(line: u32, b: u8) -> Result<u32, NoMemory>
     if b != b'\n' {
         return Ok(line);
     }
-    match line.checked_add(1) {
-        Some(after) => Ok(after),
-        None => Err(NoMemory),
-    }
+    next_number(line)
 }

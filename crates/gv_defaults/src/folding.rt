@@ -11,7 +11,7 @@ ghost use Rattle.gv_defaults.specs.Passed.{takes, HasPassed};
 ghost use Rattle.gv_defaults.specs.Indexed.{IsIndexed};
 
 use crate::cut::cut_first;
-use gv_base::{NoMemory, Text, Texts, in_order_law};
+use gv_base::{NoMemory, Text, Texts, add_key, has_key};
 use std::alloc::Global;
 use std::collections::BTreeSet;
 
@@ -107,20 +107,6 @@ fn takes(behind: &Behind, word: &Text) -> bool
     ensures { result ≡ takes behind.now word.now }
 {
     behind.all || has_key(&behind.removed, word)
-}
-
-fn has_key(set: &BTreeSet<Text>, word: &Text) -> bool
-    ensures { result ≡ has_text set.now.keys word.now }
-{
-    set.contains(word)
-}
-
-fn add_key(set: &mut BTreeSet<Text>, word: Text) -> Result<(), NoMemory>
-    ensures { OnOk result ((text : List ℕ) → has_text set.new.keys text ≡ (bytes_eq text word || has_text set.old.keys text)) }
-{
-    in_order_law();
-    set.insert(word)?;
-    Ok(())
 }
 
 // The words that none of those behind removes.

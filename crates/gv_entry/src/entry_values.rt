@@ -9,7 +9,7 @@ ghost use Rattle.gv_facts.specs.Classes.{class_text};
 ghost use Rattle.gv_entry.specs.EntryRead.{has_sign};
 ghost use Rattle.gv_entry.specs.EntryValues.{eapi_of, is_iuse_word, is_keyword_word, slot_in, slot_of, unmarked, value_of};
 
-use gv_base::{Cut, NoMemory, Text, Texts, next_piece};
+use gv_base::{Cut, NoMemory, Text, Texts, after_prefix, next_piece};
 use gv_facts::{Class, Eapi, class_text};
 use gv_version::{is_flag, is_keyword, is_slot};
 use std::alloc::Global;
@@ -146,12 +146,6 @@ pub fn plus_flags_of(alloc: Global, words: &Texts) -> Result<Texts, NoMemory>
         }
     }
     Ok(flags)
-}
-
-fn after_prefix<'a>(prefix: &[u8], line: &'a [u8]) -> Option<&'a [u8]>
-    ensures { MatchOption result (after_prefix prefix.now line.now ≡ None) (λ rest. after_prefix prefix.now line.now ≡ Some rest.now) }
-{
-    line.strip_prefix(prefix)
 }
 
 // What follows the key and `=` in the line.

@@ -15,8 +15,8 @@ ghost use Rattle.gv_reading.specs.Reading.{list};
 ghost use Rattle.gv_reading.specs.Paths.{within};
 
 use crate::paths::cache_dir;
-use gv_base::{NoMemory, Text, Texts, Tree};
-use gv_reading::{LoadFault, Reader, add_key, list_at, within};
+use gv_base::{NoMemory, Text, Texts, Tree, add_key};
+use gv_reading::{LoadFault, Reader, list_at, within};
 use gv_report::Subject;
 use gv_version::{Version, is_package, split_pf, split_pf_law};
 use std::alloc::Global;

@@ -15,9 +15,9 @@ ghost use Rattle.gv_reading.specs.Reading.{once};
 
 use crate::categories::{list_category, name_in, pf_subject};
 use crate::paths::{ebuild_path, entry_path};
-use gv_base::{Found, NoMemory, Text, Texts, Tree};
+use gv_base::{Found, NoMemory, Text, Texts, Tree, has_key};
 use gv_entry::{Entry, digest_of, read_entry};
-use gv_reading::{LoadFault, Reader, has_key};
+use gv_reading::{LoadFault, Reader};
 use gv_report::Subject;
 use std::alloc::Global;
 use std::collections::BTreeSet;

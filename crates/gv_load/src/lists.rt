@@ -8,10 +8,9 @@ ghost use Rattle.gv_load.specs.OwnLines.{AreNumbered};
 ghost use Rattle.gv_load.specs.PartsRead.{lists_of, lists_with, top_paths};
 
 use crate::paths::{categories_path, mask_path};
-use gv_base::{Cut, NoMemory, Text, Texts, Tree, next_piece};
+use gv_base::{Cut, NoMemory, Text, Texts, Tree, next_number, next_piece};
 use gv_profile::{
-    DescLines, DescRead, PlaceNote, PlaceNotes, desc_path, line_words, mask_notes, next_number,
-    read_desc,
+    DescLines, DescRead, PlaceNote, PlaceNotes, desc_path, line_words, mask_notes, read_desc,
 };
 use gv_reading::{LoadFault, NamedFiles, Reader, read_files};
 use gv_version::is_category;

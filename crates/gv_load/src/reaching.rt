@@ -16,9 +16,9 @@ ghost use Rattle.gv_profile.specs.Walking.{line_dir};
 
 use crate::directories::read_directory;
 use crate::layout::Layout;
-use gv_base::{NoMemory, Text, Texts, Tree};
+use gv_base::{NoMemory, Text, Texts, Tree, add_key, has_key};
 use gv_profile::{DescLine, DescLines, DirFiles, Dirs, line_dir, parents_of};
-use gv_reading::{LoadFault, Reader, add_key, has_key};
+use gv_reading::{LoadFault, Reader};
 use std::alloc::Global;
 use std::collections::BTreeSet;
 

@@ -22,7 +22,7 @@ ghost use Rattle.gv_visible.specs.Candidates.{level_of, pkgs_of, profile_of, tes
 
 use crate::query::LowerFault;
 use gv_atom::{Atom, Block, UseItem};
-use gv_base::NoMemory;
+use gv_base::{NoMemory, next_number};
 use gv_expr::{DepExpr, DepTree, UseExpr, UseTree};
 use gv_facts::Pkg;
 use gv_visible::Candidates;
@@ -145,16 +145,6 @@ fn named_weight<F: Fn(&Pkg) -> bool>(atom: &Atom, candidates: &Candidates<'_, F>
     let each = plus(1, count(atom.items.items()));
     let places = candidates.places(atom);
     times(each, places.len() as u64)
-}
-
-// The number of the next package. Numbers end before 2^32.
-fn next_number(n: u32) -> Result<u32, NoMemory>
-    ensures { IfOk result (λ next. next ≡ n + 1) }
-{
-    match n.checked_add(1) {
-        Some(next) => Ok(next),
-        None => Err(NoMemory),
-    }
 }
 
 // One and the atom's items, for each visible package that it matches.

@@ -4,10 +4,10 @@ ghost use Rattle.gv_profile.specs.Lines.{line_words};
 ghost use Rattle.gv_profcheck.specs.Unknown.{atom_in, file_reports, if_unknown, in_flags, in_mask, is_unknown, mask_atom, unknown_at, unknown_reports};
 
 use gv_atom::{Atom, print_atom};
-use gv_base::{Cut, NoMemory, Text, next_piece};
+use gv_base::{Cut, NoMemory, Text, next_number, next_piece};
 use gv_facts::Pkgs;
 use gv_load::Repo;
-use gv_profile::{are_flag_words, file_atom, line_words, next_number};
+use gv_profile::{are_flag_words, file_atom, line_words};
 use gv_report::{Keyword, Report, Reports, Subject};
 use gv_usedefaults::{FileKind, LineFile, Walk};
 use std::alloc::Global;

@@ -8,13 +8,13 @@ ghost use Rattle.gv_profile.specs.Names.{defaults_path};
 ghost use Rattle.gv_profile.specs.Notes.{bad_parent, bad_mask, bad_line, line_notes, files_notes, notes_among};
 
 use crate::flag_lines::{FlagLine, flag_line};
-use crate::lines::{line_words, next_number};
+use crate::lines::line_words;
 use crate::mask_lines::mask_in;
 use crate::notes::{Bad, LineFile, add_note};
 use crate::parent_files::is_parent;
 use crate::walking::parent_path;
 use crate::{DirFiles, NamedFiles, PlaceNotes};
-use gv_base::{Cut, NoMemory, Text, next_piece};
+use gv_base::{Cut, NoMemory, Text, next_number, next_piece};
 use gv_defaults::{Vars, read_defaults};
 use std::alloc::Global;
 

@@ -46,7 +46,7 @@ pub use flag_lines::are_flag_words;
 pub use flag_rules::add_forcing_lines;
 pub use gv_reading::{NamedFile, NamedFiles};
 pub use laws::{flag_law, mask_law, stack_law};
-pub use lines::{line_words, next_number};
+pub use lines::line_words;
 pub use mask_lines::file_atom;
 pub use notes::{PlaceNote, PlaceNotes};
 pub use parent_files::{ParentLine, ParentLines, parents};

@@ -6,9 +6,9 @@ ghost use Rattle.gv_profile.specs.ParentWords.{is_parent};
 ghost use Rattle.gv_profile.specs.ParentFiles.{parent_in, parent_lines};
 ghost use Rattle.gv_profile.specs.Lines.{line_words};
 
-use crate::lines::{line_words, next_number};
+use crate::lines::line_words;
 use crate::paths::{is_relative, resolve};
-use gv_base::{Cut, NoMemory, Text, next_piece};
+use gv_base::{Cut, NoMemory, Text, next_number, next_piece};
 use std::alloc::Global;
 use std::marker::Model;
 

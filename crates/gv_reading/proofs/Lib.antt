@@ -1,3 +1,2 @@
 pub mod Onces
 pub mod Readings
-pub mod SetLemmas

@@ -11,9 +11,9 @@ ghost use Rattle.gv_reading.specs.Paths.{within};
 ghost use Rattle.gv_load.specs.Paths.{entry_path};
 ghost use Rattle.gv_reload.specs.EntryEdits.{entry_name, is_edited, is_edited_in};
 
-use crate::entry_paths::{after_prefix, entry_parts};
+use crate::entry_paths::entry_parts;
 use crate::joined::Joined;
-use gv_base::{NoMemory, Text, Texts};
+use gv_base::{NoMemory, Text, Texts, after_prefix};
 use gv_load::name_in;
 use gv_reading::within;
 use gv_report::Subject;

@@ -4,7 +4,7 @@ ghost use Rattle.std.specs.Prelude.{◌≡◌, ◌≢◌, ◌++◌, ℕ, List, N
 ghost use Rattle.gv_base.specs.Cut.{after_prefix};
 ghost use Rattle.gv_reload.specs.EntryEdits.{entry_parts, is_entry, is_in_metadata, parts_behind};
 
-use gv_base::{NoMemory, Text, Texts, until};
+use gv_base::{NoMemory, Text, Texts, after_prefix, until};
 use gv_load::is_pf;
 
 /// Whether a path is that of an entry of one of the categories: `metadata/md5-cache/CATEGORY/PF`.
@@ -52,12 +52,4 @@ pub(crate) fn parts_behind(rest: &[u8]) -> (&[u8], &[u8])
     } else {
         (first, &rest[rest.len()..])
     }
-}
-
-/// What follows the prefix, where the bytes begin with it.
-pub(crate) fn after_prefix<'a>(prefix: &[u8], path: &'a [u8]) -> Option<&'a [u8]>
-    ensures after { MatchOption result (after_prefix prefix.now path.now ≡ None) (λ rest. after_prefix prefix.now path.now ≡ Some rest.now) }
-    ensures cut { MatchOption result ((rest : List ℕ) → path.now ≢ prefix.now ++ rest) (λ rest. path.now ≡ prefix.now ++ rest.now) }
-{
-    path.strip_prefix(prefix)
 }

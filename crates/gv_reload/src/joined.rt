@@ -12,9 +12,8 @@ ghost use Rattle.gv_base.specs.Order.{has_text};
 ghost use Rattle.gv_reading.specs.Paths.{within};
 ghost use Rattle.gv_reload.specs.Joined.{has_pair, has_slash};
 
-use crate::entry_paths::{after_prefix, parts_behind};
-use gv_base::{NoMemory, Text, Texts, map_law};
-use gv_reading::{add_key, has_key};
+use crate::entry_paths::parts_behind;
+use gv_base::{NoMemory, Text, Texts, add_key, after_prefix, has_key, map_law};
 use std::alloc::Global;
 use std::collections::{BTreeMap, BTreeSet};
 use std::marker::Model;

@@ -15,10 +15,10 @@ ghost use Rattle.gv_reading.specs.Reading.{read};
 ghost use Rattle.gv_profile.specs.Names.{profiles};
 
 use crate::file_kinds::{FileKind, LineFile, is_plain, kind_name};
-use gv_base::{Found, NoMemory, Text, Texts, Tree};
+use gv_base::{Found, NoMemory, Text, Texts, Tree, add_key, has_key};
 use gv_load::mask_path;
 use gv_profile::{parents, top_dir};
-use gv_reading::{LoadFault, NamedFile, NamedFiles, Reader, add_key, has_key, read_files, within};
+use gv_reading::{LoadFault, NamedFile, NamedFiles, Reader, read_files, within};
 use std::alloc::Global;
 use std::collections::BTreeSet;
 

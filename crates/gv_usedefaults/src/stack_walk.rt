@@ -11,8 +11,7 @@ ghost use Rattle.gv_usedefaults.specs.Stacks.{file_parents, parents_in, stack_fr
 
 use crate::line_walk::paths_in;
 use crate::{FileKind, LineFile, LineFiles};
-use gv_base::{NoMemory, Text, Texts};
-use gv_reading::{add_key, has_key};
+use gv_base::{NoMemory, Text, Texts, add_key, has_key};
 use std::alloc::Global;
 use std::collections::BTreeSet;
 

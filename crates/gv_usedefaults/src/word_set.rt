@@ -3,8 +3,7 @@ ghost use Rattle.std.specs.Prelude.{◌≡◌, List, ℕ, IfOk};
 ghost use Rattle.gv_base.specs.Order.{has_text};
 ghost use Rattle.gv_usedefaults.specs.WordSets.{HasWords};
 
-use gv_base::{NoMemory, Text, Texts};
-use gv_reading::{add_key, has_key};
+use gv_base::{NoMemory, Text, Texts, add_key, has_key};
 use std::alloc::Global;
 use std::collections::BTreeSet;
 use std::marker::Model;

@@ -3,7 +3,7 @@ ghost use Rattle.std.specs.Prelude.{◌≡◌, ◌||◌, ℕ, List, OnOk};
 ghost use Rattle.std.specs.Str.{bytes_eq};
 ghost use Rattle.gv_base.specs.Order.{has_text};
 
-use gv_base::{NoMemory, Text, in_order_law};
+use crate::{NoMemory, Text, in_order_law};
 use std::collections::BTreeSet;
 
 /// Whether the text is in the set.

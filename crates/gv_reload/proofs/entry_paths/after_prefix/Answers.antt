@@ -1,6 +1,0 @@
-use Rattle.std.proofs.lemmas.Bool.Decides.{Decides-eqb}
-use Rattle.std.proofs.lemmas.Slice.Eq.{strip_prefix_is}
-use Rattle.gv_reload.proofs.entry_paths.after_prefix.Goals as goal
-
-pub returns-clause-cut : goal.returns-clause-cut
-returns-clause-cut c = strip_prefix_is Decides-eqb c.args.path.now c.args.prefix.now c.strip_prefix.result c.strip_prefix.ensures.cases
