@@ -1,4 +1,4 @@
-//! The clauses of gates, gate by gate. Linear in gates and operands.
+//! The clauses of gates, gate by gate. Linear in gates and operands; one list of literals is kept for all long clauses.
 
 ghost use Rattle.std.specs.Prelude.{◌≡◌, ◌+◌, ◌*◌, ◌<◌, ◌≤◌, ◌^◌, [], ◌∷◌, ◌++◌, map, IfOk, OnOk};
 ghost use Rattle.std.specs.List.{AllByRecursion};
@@ -7,7 +7,7 @@ ghost use Rattle.gv_logic.specs.declared.gates.Op.TheVariants.{And, Or};
 ghost use Rattle.gv_logic.specs.Encoding.{op_clauses, formula_of};
 
 use gv_base::NoMemory;
-use gv_logic::{Clause, Clauses, Gates, Lit, Op};
+use gv_logic::{Clauses, Gates, Lit, Op};
 use std::alloc::Global;
 
 /// The clauses of gates over the places as variables, gate by gate. For an And gate g over l1 to
@@ -19,9 +19,10 @@ pub fn encode(alloc: Global, gates: &Gates) -> Result<Clauses, NoMemory>
 {
     let inputs = gates.inputs();
     let mut clauses = Clauses::new(alloc, inputs + gates.count());
+    let mut room = Vec::new(alloc);
     for n in 0..gates.count() {
         add_gate(
-            alloc,
+            &mut room,
             &mut clauses,
             inputs + n,
             gates.op(n),
@@ -62,24 +63,29 @@ fn add_opposite_pairs(clauses: &mut Clauses, first: Lit, lits: &[Lit]) -> Result
 }
 
 // The clause of `first` and all the literals.
-fn add_whole(alloc: Global, clauses: &mut Clauses, first: Lit, lits: &[Lit]) -> Result<(), NoMemory>
+fn add_whole(
+    whole: &mut Vec<Lit>,
+    clauses: &mut Clauses,
+    first: Lit,
+    lits: &[Lit],
+) -> Result<(), NoMemory>
     requires first { first < 2 * clauses.old.variables }
     requires named { AllByRecursion (λ l. l < 2 * clauses.old.variables) lits.now }
     ensures { OnOk result (clauses.new ≡ record clauses.old {
       clauses = clauses.old.clauses ++ (first ∷ lits.now) ∷ [];
     }) }
 {
-    let mut whole = Clause::with_room(alloc, lits.len() + 1)?;
-    whole.add(first)?;
+    whole.clear();
+    whole.push(first)?;
     for lit in lits {
-        whole.add(*lit)?;
+        whole.push(*lit)?;
     }
-    clauses.add(whole.items())
+    clauses.add(whole)
 }
 
 // The clause of `first` and the opposites of all the literals.
 fn add_whole_of_opposites(
-    alloc: Global,
+    turned: &mut Vec<Lit>,
     clauses: &mut Clauses,
     first: Lit,
     lits: &[Lit],
@@ -90,17 +96,17 @@ fn add_whole_of_opposites(
       clauses = clauses.old.clauses ++ (first ∷ map opposite lits.now) ∷ [];
     }) }
 {
-    let mut turned = Clause::with_room(alloc, lits.len() + 1)?;
-    turned.add(first)?;
+    turned.clear();
+    turned.push(first)?;
     for lit in lits {
-        turned.add(lit.opposite())?;
+        turned.push(lit.opposite())?;
     }
-    clauses.add(turned.items())
+    clauses.add(turned)
 }
 
 // (not g, li) for each i, then (g, not l1, .., not lm).
 fn add_and(
-    alloc: Global,
+    room: &mut Vec<Lit>,
     clauses: &mut Clauses,
     place: u32,
     operands: &[Lit],
@@ -115,12 +121,12 @@ fn add_and(
     let on = Lit(2 * place);
     let off = Lit(2 * place + 1);
     add_pairs(clauses, off, operands)?;
-    add_whole_of_opposites(alloc, clauses, on, operands)
+    add_whole_of_opposites(room, clauses, on, operands)
 }
 
 // (g, not li) for each i, then (not g, l1, .., lm).
 fn add_or(
-    alloc: Global,
+    room: &mut Vec<Lit>,
     clauses: &mut Clauses,
     place: u32,
     operands: &[Lit],
@@ -135,7 +141,7 @@ fn add_or(
     let on = Lit(2 * place);
     let off = Lit(2 * place + 1);
     add_opposite_pairs(clauses, on, operands)?;
-    add_whole(alloc, clauses, off, operands)
+    add_whole(room, clauses, off, operands)
 }
 
 // The two clauses of a gate over one literal.
@@ -162,7 +168,7 @@ fn add_single(clauses: &mut Clauses, place: u32, op: Op, lit: Lit) -> Result<(),
 }
 
 fn add_gate(
-    alloc: Global,
+    room: &mut Vec<Lit>,
     clauses: &mut Clauses,
     place: u32,
     op: Op,
@@ -177,7 +183,7 @@ fn add_gate(
 {
     match (operands, op) {
         ([one], _) => add_single(clauses, place, op, *one),
-        (_, Op::And) => add_and(alloc, clauses, place, operands),
-        (_, Op::Or) => add_or(alloc, clauses, place, operands),
+        (_, Op::And) => add_and(room, clauses, place, operands),
+        (_, Op::Or) => add_or(room, clauses, place, operands),
     }
 }
