@@ -7,7 +7,7 @@ ghost use Rattle.gv_logic.specs.declared.gates.Op.TheVariants.{And, Or};
 ghost use Rattle.gv_logic.specs.Encoding.{op_clauses, formula_of};
 
 use gv_base::NoMemory;
-use gv_logic::{Clauses, Gates, Lit, Op};
+use gv_logic::{Clauses, Gates, Lit, Op, clause_count};
 use std::alloc::Global;
 
 /// The clauses of gates over the places as variables, gate by gate. For an And gate g over l1 to
@@ -19,6 +19,8 @@ pub fn encode(alloc: Global, gates: &Gates) -> Result<Clauses, NoMemory>
 {
     let inputs = gates.inputs();
     let mut clauses = Clauses::new(alloc, inputs + gates.count());
+    let count = clause_count(gates) as usize;
+    clauses.reserve(count, count.saturating_mul(3))?;
     let mut room = Vec::new(alloc);
     for n in 0..gates.count() {
         add_gate(

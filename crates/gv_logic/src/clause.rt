@@ -125,6 +125,13 @@ impl Clauses {
         Ok(())
     }
 
+    /// Makes room for so many more clauses, of so many literals in all.
+    pub fn reserve(&mut self, clauses: usize, literals: usize) -> Result<(), NoMemory>
+        ensures { self.new ≡ self.old }
+    {
+        self.lists.reserve(clauses, literals)
+    }
+
     /// That the clauses are well formed, which is so of all clauses. It does nothing.
     pub fn formed_law(&self)
         ensures { IsFormula self.now }

@@ -56,6 +56,15 @@ impl LitLists {
         Ok(())
     }
 
+    /// Makes room for so many more lists, of so many literals in all.
+    pub(crate) fn reserve(&mut self, lists: usize, literals: usize) -> Result<(), NoMemory>
+        ensures { self.new ≡ self.old }
+    {
+        self.ends.reserve(lists)?;
+        self.lits.reserve(literals)?;
+        Ok(())
+    }
+
     /// How many lists there are.
     #[tactic(auto, using(crate::proofs::LitLists::length_cut))]
     pub(crate) fn count(&self) -> u32

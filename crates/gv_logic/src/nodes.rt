@@ -52,6 +52,14 @@ impl Nodes {
         Ok(())
     }
 
+    /// Makes room for so many more gates, of so many operands in all.
+    pub fn reserve(&mut self, gates: usize, operands: usize) -> Result<(), NoMemory>
+        ensures { self.new ≡ self.old }
+    {
+        self.ops.reserve(gates)?;
+        self.operands.reserve(gates, operands)
+    }
+
     /// The same gates once more. O(operands).
     pub fn copy(&self, alloc: Global) -> Result<Nodes, NoMemory>
         ensures { IfOk result (λ nodes. nodes ≡ self.now) }
