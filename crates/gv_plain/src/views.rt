@@ -1,7 +1,7 @@
 //! What each profile shows of the packages and says of flags.
 //!
-//! A view of a profile that is asked about few packages costs O(1). Where many are, it costs the sets of its flags and a test of each package, and
-//! each of its answers O(1); else each answer is a test of the package that is asked about. What rules of the profiles name is put into a set in the
+//! A view of a profile that is asked about few packages costs O(1). Where many are, it costs the sets of its flags and a test of each package, whose
+//! keywords are looked at once for each arch, and each of its answers O(1); else each answer is a test of the package that is asked about. What rules of the profiles name is put into a set in the
 //! same case alone.
 ghost use Rattle.std.specs.Prelude.{◌≡◌, map, Some, slice_get, IfOk, IfSome};
 ghost use Rattle.gv_facts.specs.Visible.{judged};
@@ -12,7 +12,7 @@ ghost use Rattle.gv_plain.specs.Seen.{seen};
 use gv_base::NoMemory;
 use gv_facts::{Level, Pkg, Pkgs, Profile};
 use gv_usestate::{ProfileStates, RuledFlags};
-use gv_visible::{Candidates, VisiblePkgs, judged};
+use gv_visible::{AcceptedPkgs, Candidates, VisiblePkgs, judged};
 use std::alloc::Global;
 use std::marker::Model;
 
@@ -50,11 +50,14 @@ impl<'a> ProfileView<'a> {
         pkgs: &'a Pkgs,
         profile: &'a Profile,
         asked: Asked,
+        accepted: &mut AcceptedPkgs<'a>,
     ) -> Result<ProfileView<'a>, NoMemory>
-        ensures { IfOk result (λ view. view ≡ seen pkgs.now profile.now) }
+        requires { accepted.old ≡ pkgs.now }
+        ensures view { IfOk result (λ view. view ≡ seen pkgs.now profile.now) }
+        ensures same { accepted.new ≡ accepted.old }
     {
         let states = states(alloc, profile, asked)?;
-        let shown = shown(alloc, pkgs, profile, asked)?;
+        let shown = shown(accepted, profile, asked)?;
         Ok(ProfileView {
             pkgs,
             profile,
@@ -123,16 +126,16 @@ fn states<'a>(
 
 // What the profile shows, where it is asked about many packages.
 fn shown<'a>(
-    alloc: Global,
-    pkgs: &'a Pkgs,
+    accepted: &mut AcceptedPkgs<'a>,
     profile: &'a Profile,
     asked: Asked,
 ) -> Result<Option<VisiblePkgs<'a>>, NoMemory>
-    ensures { IfOk result (λ shown. IfSome shown (λ views. views ≡ seen pkgs.now profile.now)) }
+    ensures shown { IfOk result (λ shown. IfSome shown (λ views. views ≡ seen accepted.old profile.now)) }
+    ensures same { accepted.new ≡ accepted.old }
 {
     match asked {
         Asked::Few => Ok(None),
-        Asked::Many => Ok(Some(VisiblePkgs::new(alloc, pkgs, profile)?)),
+        Asked::Many => Ok(Some(accepted.shown(profile)?)),
     }
 }
 
@@ -159,9 +162,11 @@ pub(crate) fn all_views<'a>(
 ) -> Result<Vec<ProfileView<'a>>, NoMemory>
     ensures { IfOk result (λ views. views.items ≡ map (seen pkgs.now) profiles.now) }
 {
+    let mut accepted = AcceptedPkgs::new(alloc, pkgs);
     let mut views = Vec::with_capacity(alloc, profiles.len())?;
     for profile in profiles {
-        views.push(ProfileView::new(alloc, pkgs, profile, asked)?)?;
+        let view = ProfileView::new(alloc, pkgs, profile, asked, &mut accepted)?;
+        views.push(view)?;
     }
     Ok(views)
 }

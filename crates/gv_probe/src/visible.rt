@@ -66,11 +66,9 @@ fn levels(alloc: Global, pkg: &Pkg, profile: &Profile, told: &mut Telling) -> Re
     told.say(shown_text(stable, testing));
     let index = MaskIndex::new(alloc, profile)?;
     told.say(level_text(judged(pkg, index.profile())));
-    let shown = index.shown(pkg);
     let first = index.visible(pkg, Level::Stable);
     let second = index.visible(pkg, Level::Testing);
-    let is_same = shown.stable == stable && shown.testing == testing;
-    if !is_same || first != stable || second != testing {
+    if first != stable || second != testing {
         told.say(", otherwise by the index");
     }
     Ok(())

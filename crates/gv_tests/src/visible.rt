@@ -4,7 +4,7 @@ use gv_atom::{Atom, read_atom};
 use gv_base::{Text, Texts, words_of};
 use gv_facts::{Eapi, Level, Mask, Masks, Pkg, Pkgs, Profile, Rules, Status, ValueLists};
 use gv_version::read_version;
-use gv_visible::{Candidates, VisiblePkgs, visible};
+use gv_visible::{AcceptedPkgs, Candidates, VisiblePkgs, visible};
 use std::alloc::Global;
 use std::process::Abort;
 
@@ -201,11 +201,14 @@ fn counts_all<R: Abort>(rt: &R, alloc: Global, shown: &VisiblePkgs<'_>) {
     }
 }
 
-// Both tables, of what the profile shows of the packages.
+// Both tables, of what the profile shows of the packages: the second time by what was kept for its arch.
 fn both<R: Abort>(rt: &R, alloc: Global, pkgs: &Pkgs, profile: &Profile) {
-    let shown = VisiblePkgs::new(alloc, pkgs, profile).expect(rt, "memory");
-    finds_all(rt, alloc, &shown);
-    counts_all(rt, alloc, &shown);
+    let mut accepted = AcceptedPkgs::new(alloc, pkgs);
+    for _ in 0..2 {
+        let shown = accepted.shown(profile).expect(rt, "memory");
+        finds_all(rt, alloc, &shown);
+        counts_all(rt, alloc, &shown);
+    }
 }
 
 #[test]

@@ -1,3 +1,4 @@
+pub mod Accepted
 pub mod BitList
 pub mod ByName
 pub mod Candidates

@@ -1,26 +1,26 @@
 //! A profile's masks by category and name.
 //!
-//! `new` costs O(1) on average for each mask, besides its look-up in the list of masks; `visible` and `shown` cost the
+//! `new` costs O(1) on average for each mask, besides its look-up in the list of masks; `visible` costs the
 //! package's keywords and, where these accept it, a look-up by hash, O(bytes of category and name), and the masks of its
-//! category and name, and take no memory.
+//! category and name; `shown` the same without the keywords. They take no memory.
 ghost use Rattle.std.specs.Prelude.{◌≡◌, IfOk};
 ghost use Rattle.gv_facts.specs.Places.{is_mask_of, places_of};
-ghost use Rattle.gv_facts.specs.Visible.{is_masked, visible};
+ghost use Rattle.gv_facts.specs.Visible.{accepts, is_masked, visible};
 ghost use Rattle.gv_facts.specs.declared.kinds.Level.TheVariants.{Stable, Testing};
 ghost use Rattle.gv_visible.specs.ByName.{HasPlaces};
 
 use crate::visibility::some_matches;
 use gv_base::NoMemory;
-use gv_facts::{Level, Masks, Pkg, Profile, accepts, has_testing};
+use gv_facts::{Level, Masks, Pkg, Profile, accepts};
 use indexmap::IndexMap;
 use std::alloc::Global;
 use std::marker::Model;
 
-/// At which levels a profile shows a package.
+/// At which levels a package is accepted, or shown.
 #[derive(Clone, Copy)]
-pub struct Shown {
-    pub stable: bool,
-    pub testing: bool,
+pub(crate) struct Shown {
+    pub(crate) stable: bool,
+    pub(crate) testing: bool,
 }
 
 /// A profile with the places of its masks of each category and name: made once for the profile, and lent to the tests of
@@ -83,18 +83,17 @@ impl<'a> MaskIndex<'a> {
         accepts(level, arch, &pkg.keywords) && !self.is_masked(pkg)
     }
 
-    /// At which levels the profile shows the package: what `visible` says at each.
-    pub fn shown(&self, pkg: &Pkg) -> Shown
+    /// At which levels the profile shows the package, whose keywords accept it at these: what `visible` says at each.
+    pub(crate) fn shown(&self, pkg: &Pkg, accepted: Shown) -> Shown
+        requires stable { accepted.stable ≡ accepts Stable self.now.arch pkg.now.keywords }
+        requires testing { accepted.testing ≡ accepts Testing self.now.arch pkg.now.keywords }
         ensures stable { result.stable ≡ visible pkg.now self.now Stable }
         ensures testing { result.testing ≡ visible pkg.now self.now Testing }
     {
-        let arch = self.profile().arch.bytes();
         // What accepts at stable accepts at testing too.
-        let stable = pkg.keywords.has(arch);
-        let accepted = stable || has_testing(&pkg.keywords, arch);
-        let testing = accepted && !self.is_masked(pkg);
+        let testing = accepted.testing && !self.is_masked(pkg);
         Shown {
-            stable: stable && testing,
+            stable: accepted.stable && testing,
             testing,
         }
     }

@@ -1,14 +1,15 @@
 //! The packages that a profile shows, asked of all of them at once.
 //!
-//! `new` costs an index of the masks and a test of each package, which tells of both levels, and keeps a bit for each level;
-//! the other calls cost O(1) and take no memory.
+//! `AcceptedPkgs` makes them, with a bit for each level and package; the other calls cost O(1) and take no memory.
 ghost use Rattle.std.specs.Prelude.{◌≡◌, ◌&&◌, Some, not, slice_get, IfOk};
 ghost use Rattle.gv_facts.specs.Visible.{judged, visible};
 ghost use Rattle.gv_facts.specs.declared.kinds.Level.TheVariants.{Stable};
 ghost use Rattle.gv_facts.specs.declared.pkg.Pkg.{Pkg};
+ghost use Rattle.gv_visible.specs.Accepted.{IsAccepted};
 ghost use Rattle.gv_visible.specs.Tested.{AreAllKept};
 ghost use Rattle.gv_visible.specs.VisiblePkgs.{are_visible};
 
+use crate::accepted::{ArchBits, accepted_at};
 use crate::bit_list::BitList;
 use crate::mask_index::MaskIndex;
 use gv_base::NoMemory;
@@ -38,16 +39,19 @@ impl<'a> Model for VisiblePkgs<'a> {
 }
 
 impl<'a> VisiblePkgs<'a> {
-    /// What the profile shows of the packages.
-    pub fn new(
+    /// What the profile shows of the packages, by what keywords accept for its arch.
+    pub(crate) fn by(
         alloc: Global,
         pkgs: &'a Pkgs,
         profile: &'a Profile,
+        accepted: &ArchBits<'_>,
     ) -> Result<VisiblePkgs<'a>, NoMemory>
+        requires accepted { IsAccepted pkgs.now accepted.now }
+        requires arch { accepted.now.profile.now.arch ≡ profile.now.arch }
         ensures { IfOk result (λ shown. shown ≡ record { pkgs = pkgs.now; profile = profile.now }) }
     {
         let masks = MaskIndex::new(alloc, profile)?;
-        let (stable, testing) = shown(alloc, pkgs.items(), &masks)?;
+        let (stable, testing) = shown(alloc, pkgs.items(), &masks, accepted)?;
         Ok(VisiblePkgs {
             pkgs,
             profile,
@@ -112,13 +116,20 @@ impl<'a> VisiblePkgs<'a> {
 }
 
 // Of each package whether it is visible at stable, and of each whether at testing.
-fn shown(alloc: Global, pkgs: &[Pkg], masks: &MaskIndex<'_>) -> Result<(BitList, BitList), NoMemory>
+fn shown(
+    alloc: Global,
+    pkgs: &[Pkg],
+    masks: &MaskIndex<'_>,
+    accepted: &ArchBits<'_>,
+) -> Result<(BitList, BitList), NoMemory>
+    requires accepted { IsAccepted pkgs.now accepted.now }
+    requires arch { accepted.now.profile.now.arch ≡ masks.now.arch }
     ensures { IfOk result (λ shown. AreAllKept shown.0 shown.1 masks.now pkgs.now) }
 {
     let mut stable = BitList::with_capacity(alloc, pkgs.len())?;
     let mut testing = BitList::with_capacity(alloc, pkgs.len())?;
-    for pkg in pkgs {
-        let shown = masks.shown(pkg);
+    for (i, pkg) in pkgs.iter().enumerate() {
+        let shown = masks.shown(pkg, accepted_at(accepted, i, pkg));
         stable.push(shown.stable)?;
         testing.push(shown.testing)?;
     }
