@@ -73,7 +73,7 @@ pub(crate) fn answer_root<T: Tree, L: Ledger>(
     ensures later { T.faults tree.old ≤ T.faults tree.new }
 {
     let repo = read(alloc, tree)?;
-    answers_of(alloc, &repo, &asked.options, given, steps)
+    answers_of(alloc, repo, &asked.options, given, steps)
 }
 
 fn judged<L: Ledger>(
@@ -94,23 +94,31 @@ fn judged<L: Ledger>(
     }
 }
 
+// What isn't needed any more is given back before the text and the file are made.
 #[tactic(auto, using(crate::proofs::AnswerLemmas::are_answers))]
 fn answers_of<L: Ledger>(
     alloc: Global,
-    repo: &Repo,
+    repo: Repo,
     options: &Options,
     given: &Known,
     steps: &mut Steps<L>,
 ) -> Result<Answers, Refusal>
-    requires own { HaveOwnLines repo.now.profiles }
-    ensures answers { IfOk result (AreAnswersOf options.now.budget given.now (queries options.now repo.now) (scan_text options.now repo.now) steps.old steps.new) }
-    ensures cause { IfErr result (Why (of_queries (IsUnanswered options.now.budget given.now repo.now (queries options.now repo.now)))) }
+    requires own { HaveOwnLines repo.profiles }
+    ensures answers { IfOk result (AreAnswersOf options.now.budget given.now (queries options.now repo) (scan_text options.now repo) steps.old steps.new) }
+    ensures cause { IfErr result (Why (of_queries (IsUnanswered options.now.budget given.now repo (queries options.now repo)))) }
 {
     selected_law();
     gates_law();
     records_law();
-    let judged = judged(alloc, repo, options, given, steps)?;
-    let text = text_of(alloc, options, &judged.reports)?;
-    let file = write_known(alloc, &judged.certs)?;
+    let judged = judged(alloc, &repo, options, given, steps)?;
+    drop(repo);
+    let Judged {
+        reports,
+        certs,
+        queries: _,
+    } = judged;
+    let text = text_of(alloc, options, &reports)?;
+    drop(reports);
+    let file = write_known(alloc, &certs)?;
     Ok(Answers { text, file })
 }

@@ -61,7 +61,7 @@ fn answer_overlay<T: Tree, L: Ledger>(
     ensures later { T.faults tree.old ≤ T.faults tree.new }
 {
     let over = read(alloc, tree, &scan.repo)?;
-    answers_of(alloc, &over, &scan.asked.options, given, steps)
+    answers_of(alloc, over, &scan.asked.options, given, steps)
 }
 
 // The overlay of this name, with its masters.
@@ -99,23 +99,31 @@ fn judged<L: Ledger>(
     }
 }
 
+// What isn't needed any more is given back before the text and the file are made.
 #[tactic(auto, using(crate::proofs::Overlaid::are_answers))]
 fn answers_of<L: Ledger>(
     alloc: Global,
-    over: &Overlay,
+    over: Overlay,
     options: &Options,
     given: &Known,
     steps: &mut Steps<L>,
 ) -> Result<Answers, Refusal>
-    requires own { HaveOwnLines over.now.repo.profiles }
-    ensures answers { IfOk result (AreAnswersOf options.now.budget given.now (overlay_queries options.now over.now) (overlay_text options.now over.now) steps.old steps.new) }
-    ensures cause { IfErr result (Why (of_queries (IsUnanswered options.now.budget given.now over.now.repo (overlay_queries options.now over.now)))) }
+    requires own { HaveOwnLines over.repo.profiles }
+    ensures answers { IfOk result (AreAnswersOf options.now.budget given.now (overlay_queries options.now over) (overlay_text options.now over) steps.old steps.new) }
+    ensures cause { IfErr result (Why (of_queries (IsUnanswered options.now.budget given.now over.repo (overlay_queries options.now over)))) }
 {
     selected_law();
     gates_law();
     records_law();
-    let judged = judged(alloc, over, options, given, steps)?;
-    let text = text_of(alloc, options, &judged.reports)?;
-    let file = write_known(alloc, &judged.certs)?;
+    let judged = judged(alloc, &over, options, given, steps)?;
+    drop(over);
+    let Judged {
+        reports,
+        certs,
+        queries: _,
+    } = judged;
+    let text = text_of(alloc, options, &reports)?;
+    drop(reports);
+    let file = write_known(alloc, &certs)?;
     Ok(Answers { text, file })
 }
