@@ -243,3 +243,7 @@ no_ok P (Err e) is = tt
 pub on_err : {T E P : Type 0} (r : Result T E) → P → OnErr r P
 on_err (Ok x) p = tt
 on_err (Err e) p = p
+
+-- and none left
+pub states_end : {A : Type 0} (key : A → ℕ) (flags : List A) (i : ℕ) (now end : List ℕ) → length flags ≤ i → now ++ map key (drop i flags) ≡ end → now ≡ end
+states_end key flags i now end le left = sym (append-nil now) ∙ (ap (λ fs. now ++ map key fs) (sym (drop_of_length-le flags le)) ∙ left)

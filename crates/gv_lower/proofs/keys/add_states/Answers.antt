@@ -1,10 +1,11 @@
-use Rattle.std.proofs.Common.{ap, arith, sym, subst, ◌∙◌, ◌+◌}
+use Rattle.std.proofs.Common.{ap, arith, sym, subst, ◌∙◌, ◌+◌, ◌++◌, map}
 use Rattle.std.proofs.lemmas.List.{length-drop}
 use Rattle.gv_facts.specs.declared.pkg.Pkg.{Pkg}
 use Rattle.gv_usestate.specs.Kinds.{IsKind}
+use Rattle.gv_facts.specs.States.{state}
 use Rattle.gv_lower.specs.Sites.{KnownFlag}
 use Rattle.gv_lower.specs.Keys.{other_key}
-use Rattle.gv_lower.proofs.KeysMade.{known_here, states_next}
+use Rattle.gv_lower.proofs.KeysMade.{known_here, states_end, states_next}
 use Rattle.gv_lower.proofs.keys.add_states.Goals as goal
 
 pub state_in-state-requires-clause-kind : goal.state_in-state-requires-clause-kind
@@ -23,3 +24,11 @@ loop-known-preserved c = record {
   profile = ap (λ p. p.profile) c.state_in-state.ensures.same ∙ c.loop-known.invariant.profile;
   level = ap (λ p. p.level) c.state_in-state.ensures.same ∙ c.loop-known.invariant.level;
 }
+
+pub push_reserved-requires : goal.push_reserved-requires
+push_reserved-requires c = omega (arith, length-drop c.loop-known.known-index c.args.flags.now)
+
+pub returns-clause-ok : goal.returns-clause-ok
+returns-clause-ok c =
+    states_end (λ k. other_key (state c.args.pkg.now c.args.states.now c.args.level k.flag)) c.args.flags.now c.loop-known.known-index c.loop-known.key.items _ c.loop-known-test.false c.loop-known.invariant.added
+    ∙ ap (λ ks. ks ++ map (λ k. other_key (state c.args.pkg.now c.args.states.now c.args.level k.flag)) c.args.flags.now) c.in_ok-reserve.ensures.items
