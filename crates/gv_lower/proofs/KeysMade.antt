@@ -24,7 +24,7 @@ use Rattle.gv_entry.specs.Allowed.{Parent}
 use Rattle.gv_usestate.specs.Kinds.{IsKind, IsOneOf, flag_kind}
 use Rattle.gv_lower.specs.Around.{alone}
 use Rattle.gv_lower.specs.Keys.{atom_key, candidate_key, class_key, flags_key, other_key, own_key, required_key}
-use Rattle.gv_lower.specs.KeysAround.{Begins, AreKnown, IsKnownAt, found_key, other_keys, own_keys, place_key, site_key}
+use Rattle.gv_lower.specs.KeysAround.{Begins, AreKnown, IsKnownAt, found_key, own_keys, place_key, site_key}
 use Rattle.gv_lower.specs.Sites.{KnownFlag, PlaceSite, known_at, known_of, place_site, site_of}
 use Rattle.gv_visible.specs.NamedPkgs.{matches_at}
 use Rattle.gv_lower.proofs.SameAtoms.{append_more}
@@ -247,30 +247,3 @@ on_err (Err e) p = p
 -- and none left
 pub states_end : {A : Type 0} (key : A → ℕ) (flags : List A) (i : ℕ) (now end : List ℕ) → length flags ≤ i → now ++ map key (drop i flags) ≡ end → now ≡ end
 states_end key flags i now end le left = sym (append-nil now) ∙ (ap (λ fs. now ++ map key fs) (sym (drop_of_length-le flags le)) ∙ left)
-
-slot : {X : Type 0} (xs : List X) (i : ℕ) (x : X) → i < length xs → x ≡ get_or xs i x → slice_get xs i ≡ Some x
-slot [] i x lt is = absurd (nothing_less i lt)
-  where
-    nothing_less : (n : ℕ) → n < 0 → ⊥
-    nothing_less n h = omega (arith, h)
-slot (y ∷ ys) zero x lt is = ap Some (sym is)
-slot (y ∷ ys) (suc i) x lt is = slot ys i x (omega (arith, lt)) is
-
--- what was found at a place
-pub item_at : {X : Type 0} (xs ys : List X) (i j : ℕ) (x : X) → ys ≡ xs → j ≡ i → j < length ys → x ≡ get_or ys j x → slice_get xs i ≡ Some x
-item_at xs ys i j x same at lt is = ap (λ zs. slice_get zs i) (sym same) ∙ (ap (slice_get ys) (sym at) ∙ slot ys j x lt is)
-
--- The key of a package that is visible, and of one that isn't.
-module _ (profile seen_by : Profile) (level : Level) (pkgs : List Pkg) (site : PlaceSite) (p : Pkg) (there : slice_get pkgs site.place ≡ Some p) (same : profile ≡ seen_by) where
-  key_is : (b : Bool) → b ≡ visible p seen_by level → place_key profile level pkgs site ≡ (if b then 1 ∷ other_keys (state p profile level) site.flags else [])
-  key_is b seen =
-      ap (found_key profile level site.flags) there
-      ∙ ap (λ b. if b then 1 ∷ other_keys (state p profile level) site.flags else []) (ap (λ pr. visible p pr level) same ∙ sym seen)
-
-  pub shown_key : (flags : List KnownFlag) (l : Level) (old new : List ℕ) → true ≡ visible p seen_by level → flags ≡ site.flags → l ≡ level
-      → new ≡ old ++ 1 ∷ other_keys (state p profile l) flags → new ≡ old ++ place_key profile level pkgs site
-  shown_key flags l old new seen fs at is =
-      is ∙ ap (λ ks. old ++ ks) (ap (λ x. 1 ∷ other_keys (state p profile l) x) fs ∙ (ap (λ x. 1 ∷ other_keys (state p profile x) site.flags) at ∙ sym (key_is true seen)))
-
-  pub hidden_key : (old : List ℕ) → false ≡ visible p seen_by level → old ≡ old ++ place_key profile level pkgs site
-  hidden_key old seen = sym (ap (λ ks. old ++ ks) (key_is false seen) ∙ append-nil old)
