@@ -1,9 +1,11 @@
 -- Keys as the code makes them are those of the definition.
-use Rattle.std.proofs.Common.{◌≡◌, ℕ, zero, suc, ◌+◌, ◌<◌, Bool, true, false, ◌&&◌, cond, List, [], ◌∷◌, ◌++◌, length, filter, map, get_or, refl, sym, ap, subst, ◌∙◌, None, Some, append_assoc, length-append, arith}
+use Rattle.std.proofs.Common.{◌≡◌, ℕ, zero, suc, ◌+◌, ◌<◌, ◌≤◌, Bool, true, false, ◌&&◌, cond, List, [], ◌∷◌, ◌++◌, length, filter, map, drop, drop-cons, get_or, add-one, append-nil, refl, sym, ap, subst, ◌∙◌, None, Some, append_assoc, length-append, arith}
 use Rattle.std.specs.Prelude.{Option, Result, Ok, Err, OnErr, OnOk, flat_map, if◌then◌else◌, slice_get}
 use Rattle.std.specs.List.{AllByRecursion}
 use Rattle.std.specs.Option.{option_map_or}
+use Rattle.std.specs.Result.{IsErr}
 use Rattle.std.specs.Str.{bytes_eq}
+use Rattle.std.proofs.Math.ListN.{drop_of_length-le}
 use Rattle.std.proofs.Math.Path.{fun_ext}
 use Rattle.std.proofs.lemmas.Bool.{false≢true}
 use Rattle.gv_atom.specs.declared.atom.Atom.{Atom}
@@ -14,6 +16,7 @@ use Rattle.gv_expr.specs.Required.{Req, reqs}
 use Rattle.gv_facts.specs.Places.{is_pkg_of, places_from, places_of}
 use Rattle.gv_facts.specs.States.{state}
 use Rattle.gv_facts.specs.Visible.{matches_pkg, visible}
+use Rattle.gv_facts.specs.declared.kinds.FlagState.{FlagState}
 use Rattle.gv_facts.specs.declared.kinds.Level.{Level}
 use Rattle.gv_facts.specs.declared.pkg.Pkg.{Pkg}
 use Rattle.gv_facts.specs.declared.profile.Profile.{Profile}
@@ -206,3 +209,41 @@ class_made c profiles class q profile pkgs flags sites old mid new own others sa
 pub begins_behind : {T E : Type 0} (r : Result T E) (a b c : List ℕ) → Begins a b → Begins b c → OnErr r (Begins a c)
 begins_behind (Ok x) a b c first second = tt
 begins_behind (Err e) a b c first second = (first.0 ++ second.0, second.1 ∙ ap (λ k. k ++ second.0) first.1 ∙ append_assoc a first.0 second.0)
+
+pub begins_more : (a b c d : List ℕ) → Begins a b → c ≡ b ++ d → Begins a c
+begins_more a b c d first is = (first.0 ++ d, is ∙ ap (λ k. k ++ d) first.1 ∙ append_assoc a first.0 d)
+
+-- Keys of a list so far, and of what is left: one more, and none left.
+module _ {A : Type 0} (key : A → List ℕ) (xs ys : List A) (i : ℕ) (same : ys ≡ xs) where
+  pub keys_next : (x : A) (now next end : List ℕ) → i < length ys → x ≡ get_or ys i x → now ++ flat_map key (drop i xs) ≡ end → next ≡ now ++ key x → next ++ flat_map key (drop (i + 1) xs) ≡ end
+  keys_next x now next end lt here left is =
+      let at : drop i xs ≡ x ∷ drop (i + 1) xs = ap (drop i) (sym same) ∙ (rw add-one (drop-cons ys i x lt ∙ ap (λ y. y ∷ drop (suc i) ys) (sym here)) ∙ ap (λ zs. x ∷ drop (i + 1) zs) same) in
+      ap (λ ks. ks ++ flat_map key (drop (i + 1) xs)) is ∙ (append_assoc now (key x) (flat_map key (drop (i + 1) xs)) ∙ (ap (λ zs. now ++ flat_map key zs) (sym at) ∙ left))
+
+  pub keys_end : (now end : List ℕ) → length ys ≤ i → now ++ flat_map key (drop i xs) ≡ end → now ≡ end
+  keys_end now end le left = sym (append-nil now) ∙ (ap (λ zs. now ++ flat_map key zs) (sym (ap (drop i) (sym same) ∙ drop_of_length-le ys le)) ∙ left)
+
+  pub keys_closed : (start now next mark : List ℕ) → length ys ≤ i → now ++ flat_map key (drop i xs) ≡ start ++ flat_map key xs → next ≡ now ++ mark → next ≡ start ++ (flat_map key xs ++ mark)
+  keys_closed start now next mark le left is = is ∙ (ap (λ k. k ++ mark) (keys_end now (start ++ flat_map key xs) le left) ∙ append_assoc start (flat_map key xs) mark)
+
+-- one more of a package's states
+pub states_next : (code : FlagState → ℕ) (p q : Pkg) (profile : Profile) (level l : Level) (flags : List KnownFlag) (i : ℕ) (k m : KnownFlag) (now next end : List ℕ) (found : FlagState) (byte : ℕ)
+    → i < length flags → k ≡ get_or flags i k → m ≡ k → q ≡ p → l ≡ level → found ≡ state q profile l m.flag → byte ≡ code found → next ≡ now ++ byte ∷ []
+    → now ++ map (λ f. code (state p profile level f.flag)) (drop i flags) ≡ end → next ++ map (λ f. code (state p profile level f.flag)) (drop (i + 1) flags) ≡ end
+states_next code p q profile level l flags i k m now next end found byte lt here seen pkg at state_is byte_is is left =
+    let split : drop i flags ≡ k ∷ drop (i + 1) flags = rw add-one (drop-cons flags i k lt ∙ ap (λ y. y ∷ drop (suc i) flags) (sym here)) in
+    let code_is : byte ≡ code (state p profile level k.flag) = byte_is ∙ ap code (state_is ∙ (ap (λ x. state x profile l m.flag) pkg ∙ (ap (λ x. state p profile x m.flag) at ∙ ap (λ f. state p profile level f.flag) seen))) in
+    ap (λ ks. ks ++ map (λ f. code (state p profile level f.flag)) (drop (i + 1) flags)) (is ∙ ap (λ b. now ++ b ∷ []) code_is)
+    ∙ (append_assoc now (code (state p profile level k.flag) ∷ []) (map (λ f. code (state p profile level f.flag)) (drop (i + 1) flags)) ∙ (ap (λ fs. now ++ map (λ f. code (state p profile level f.flag)) fs) (sym split) ∙ left))
+
+pub no_ok : {T E : Type 0} (P : Type 0) (r : Result T E) → IsErr r → OnOk r P
+no_ok P (Ok x) is = absurd (false≢true is)
+no_ok P (Err e) is = tt
+
+pub on_err : {T E P : Type 0} (r : Result T E) → P → OnErr r P
+on_err (Ok x) p = tt
+on_err (Err e) p = p
+
+-- and none left
+pub states_end : {A : Type 0} (key : A → ℕ) (flags : List A) (i : ℕ) (now end : List ℕ) → length flags ≤ i → now ++ map key (drop i flags) ≡ end → now ≡ end
+states_end key flags i now end le left = sym (append-nil now) ∙ (ap (λ fs. now ++ map key fs) (sym (drop_of_length-le flags le)) ∙ left)

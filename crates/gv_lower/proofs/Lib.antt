@@ -28,3 +28,4 @@ mod SameTrees
 mod SameAtoms
 mod SameQueries
 mod KeysMade
+mod SitesMade

@@ -1,4 +1,4 @@
-use Rattle.std.proofs.Common.{◌+◌, length, arith}
+use Rattle.std.proofs.Common.{length, arith}
 use Rattle.gv_expr.specs.Dep.{deps}
 use Rattle.gv_expr.specs.Required.{reqs}
 use Rattle.gv_expr.specs.RequiredGrammar.{req_tokens}
