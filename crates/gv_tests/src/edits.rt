@@ -46,28 +46,64 @@ fn are_refused(edits: &mut Edits, path: &[u8], bytes: &[u8], cause: EditFault) -
     edits.put(path, bytes) == Err(cause) && edits.cut(path) == Err(cause) && edits.len() == before
 }
 
-#[test]
-fn refused_edits_change_nothing(rt: HostRuntime) {
-    let alloc = rt.alloc();
+// One edit, which puts `1` at `a/b`.
+fn one_edit<R: Abort>(rt: &R, alloc: Global) -> Edits {
     let mut edits = Edits::new(alloc);
-    assert!(rt; edits.put(b"a/b", b"1").is_ok());
-    let large = vec![in alloc; 0u8; 16_777_217].expect(&rt, "memory");
-    let long = vec![in alloc; b'a'; 4097].expect(&rt, "memory");
+    edits.put(b"a/b", b"1").expect(rt, "memory");
+    edits
+}
+
+/// A file has at most so many bytes, and a path so many.
+const LARGEST: usize = 16_777_216;
+
+const LONGEST: usize = 4096;
+
+fn many<R: Abort>(rt: &R, alloc: Global, byte: u8, count: usize) -> Vec<u8> {
+    vec![in alloc; byte; count].expect(rt, "memory")
+}
+
+// Whether the edits are still the one, and a tree with them shows its file.
+fn is_one<R: Abort>(rt: &R, alloc: Global, edits: &Edits) -> bool {
+    let mut tree = MemTree::new(Files::new(alloc), Calls::new(alloc));
+    let is_there = matches!(edits.path(0), Some(path) if path.bytes() == b"a/b".as_slice());
+    is_there
+        && seen(rt, alloc, &mut tree, edits, "a/b", "1 ")
+        && seen(rt, alloc, &mut tree, edits, "a", "/ b")
+}
+
+#[test]
+fn bad_paths_are_refused_and_change_nothing(rt: HostRuntime) {
+    let alloc = rt.alloc();
+    let mut edits = one_edit(&rt, alloc);
+    let large = many(&rt, alloc, 0, LARGEST + 1);
     for path in "#/a/b#a/b/#a//b#a/./b#..#../a/b#a b#a\tb#a/\u{7f}#a/\u{e9}#a/b\n".split('#') {
         assert!(rt; are_refused(&mut edits, path.as_bytes(), b"2", EditFault::BadPath));
         assert!(rt; are_refused(&mut edits, path.as_bytes(), &large, EditFault::BadPath));
     }
+    assert!(rt; edits.len() == 1 && is_one(&rt, alloc, &edits));
+}
+
+#[test]
+fn edits_past_a_limit_are_refused_and_change_nothing(rt: HostRuntime) {
+    let alloc = rt.alloc();
+    let mut edits = one_edit(&rt, alloc);
+    let large = many(&rt, alloc, 0, LARGEST + 1);
+    let long = many(&rt, alloc, b'a', LONGEST + 1);
     assert!(rt; are_refused(&mut edits, &long, b"2", EditFault::Limit));
     assert!(rt; are_refused(&mut edits, &long, &large, EditFault::Limit));
     assert!(rt; edits.put(b"a/b", &large) == Err(EditFault::Limit));
-    assert!(rt; edits.len() == 1);
-    assert!(rt; edits.put(&long[1..], &large[1..]).is_ok());
-    assert!(rt; edits.cut(&long[1..]).is_ok());
+    assert!(rt; edits.len() == 1 && is_one(&rt, alloc, &edits));
+}
+
+#[test]
+fn edits_at_the_limits_are_taken(rt: HostRuntime) {
+    let alloc = rt.alloc();
+    let mut edits = one_edit(&rt, alloc);
+    let long = many(&rt, alloc, b'a', LONGEST);
+    assert!(rt; edits.put(&long, &many(&rt, alloc, 0, LARGEST)).is_ok());
+    assert!(rt; edits.cut(&long).is_ok());
     assert!(rt; edits.len() == 3 && edits.path(3).is_none());
-    assert!(rt; matches!(edits.path(0), Some(path) if path.bytes() == b"a/b".as_slice()));
-    let mut tree = MemTree::new(Files::new(alloc), Calls::new(alloc));
-    assert!(rt; seen(&rt, alloc, &mut tree, &edits, "a/b", "1 "));
-    assert!(rt; seen(&rt, alloc, &mut tree, &edits, "a", "/ b"));
+    assert!(rt; is_one(&rt, alloc, &edits));
 }
 
 fn drawn(seed: &mut u32, below: u32) -> u32

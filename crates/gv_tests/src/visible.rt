@@ -138,20 +138,20 @@ fn finds<R: Abort>(
     want: &str,
 ) {
     let atom = atom(rt, alloc, bytes);
+    let want = wanted(rt, want);
     let found = next_visible(alloc, shown.pkgs(), shown.profile(), level, &atom, from).expect(
         rt, bytes,
     );
-    assert_eq!(rt;
-        found,
-        next_among(shown, level, &atom, from),
-        "{bytes} {from}"
-    );
+    let among = next_among(shown, level, &atom, from);
+    assert!(rt; found == want && among == want, "{bytes} {from}");
+}
+
+// A number, or none where a hyphen stands.
+fn wanted<R: Abort>(rt: &R, want: &str) -> Option<u32> {
     if want == "-" {
-        assert_eq!(rt; found, None, "{bytes} {from}");
-    } else {
-        let want: u32 = want.parse().expect(rt, bytes);
-        assert_eq!(rt; found, Some(want), "{bytes} {from}");
+        return None;
     }
+    Some(want.parse().expect(rt, want))
 }
 
 // Each line of the table.
@@ -204,11 +204,19 @@ fn counts_all<R: Abort>(rt: &R, alloc: Global, shown: &VisiblePkgs<'_>) {
 // Both tables, of what the profile shows of the packages: the second time by what was kept for its arch.
 fn both<R: Abort>(rt: &R, alloc: Global, pkgs: &Pkgs, profile: &Profile) {
     let mut accepted = AcceptedPkgs::new(alloc, pkgs);
-    for _ in 0..2 {
-        let shown = accepted.shown(profile).expect(rt, "memory");
-        finds_all(rt, alloc, &shown);
-        counts_all(rt, alloc, &shown);
-    }
+    shown_anew(rt, alloc, &mut accepted, profile);
+    shown_anew(rt, alloc, &mut accepted, profile);
+}
+
+fn shown_anew<'a, R: Abort>(
+    rt: &R,
+    alloc: Global,
+    accepted: &mut AcceptedPkgs<'a>,
+    profile: &'a Profile,
+) {
+    let shown = accepted.shown(profile).expect(rt, "memory");
+    finds_all(rt, alloc, &shown);
+    counts_all(rt, alloc, &shown);
 }
 
 #[test]
