@@ -147,23 +147,32 @@ fn with_parts(bare: BareProfile, masks: Masks, rules: Rules) -> Profile
       rules = rules;
     } }
 {
+    let BareProfile {
+        testing,
+        iuse_implicit,
+        expand,
+        expand_implicit,
+        unprefixed,
+        values,
+        line,
+    } = bare;
     let DescLine {
         number,
         arch,
         path,
         status,
-    } = bare.line;
+    } = line;
     Profile {
         line: number,
         arch,
         path,
         status,
-        testing: bare.testing,
-        iuse_implicit: bare.iuse_implicit,
-        expand: bare.expand,
-        expand_implicit: bare.expand_implicit,
-        unprefixed: bare.unprefixed,
-        values: bare.values,
+        testing,
+        iuse_implicit,
+        expand,
+        expand_implicit,
+        unprefixed,
+        values,
         masks,
         rules,
     }
