@@ -223,12 +223,17 @@ fn pf_read(
     requires { is_pf pf.now ≡ true }
     ensures { IfOk result (λ read. read ≡ record { subject = pf_subject category.now pf.now; entry = entry; ebuild = ebuild }) }
 {
-    let subject = pf_subject(alloc, category, pf)?;
-    Ok(PfRead {
-        subject,
-        entry,
-        ebuild,
-    })
+    match pf_subject(alloc, category, pf) {
+        Ok(subject) => Ok(PfRead {
+            subject,
+            entry,
+            ebuild,
+        }),
+        Err(refused) => {
+            drop(entry);
+            Err(refused)
+        }
+    }
 }
 
 // Reads a PF: its entry where it is listed, then its ebuild.
@@ -245,7 +250,13 @@ fn read_pf<T: Tree>(
     ensures { Reads (view T.files T.faults T.entered T.lent) tree.old tree.new (λ look. pf_steps listed.now.keys category.now pf.now) (λ look value. value ≡ pf_read look listed.now.keys category.now pf.now) reader.old reader.new result }
 {
     let entry = read_listed(alloc, reader, tree, listed, category, pf)?;
-    let ebuild = read_ebuild(alloc, reader, tree, category, pf)?;
+    let ebuild = match read_ebuild(alloc, reader, tree, category, pf) {
+        Ok(ebuild) => ebuild,
+        Err(fault) => {
+            drop(entry);
+            return Err(fault);
+        }
+    };
     Ok(pf_read(alloc, category, pf, entry, ebuild)?)
 }
 

@@ -174,7 +174,10 @@ fn kept_with(entry: Entry, why: Option<Why>) -> Kept
     ensures { result ≡ kept_with entry why }
 {
     match why {
-        Some(why) => Kept::Stale { why },
+        Some(why) => {
+            drop(entry);
+            Kept::Stale { why }
+        }
         None => Kept::Current { entry },
     }
 }
@@ -190,11 +193,17 @@ fn judge(
     match (entry, ebuild) {
         (None, None) => Ok(Kept::Nothing),
         (None, Some(_)) => Ok(Kept::Missing),
-        (Some(_), None) => Ok(Kept::Orphan),
-        (Some(entry), Some(ebuild)) => {
-            let why = stale(alloc, digests, &entry, &ebuild)?;
-            Ok(kept_with(entry, why))
+        (Some(entry), None) => {
+            drop(entry);
+            Ok(Kept::Orphan)
         }
+        (Some(entry), Some(ebuild)) => match stale(alloc, digests, &entry, &ebuild) {
+            Ok(why) => Ok(kept_with(entry, why)),
+            Err(refused) => {
+                drop(entry);
+                Err(refused)
+            }
+        },
     }
 }
 

@@ -2,7 +2,8 @@
 //!
 //! A directory costs O(log n) comparisons of paths for n directories for each line that names it, and its files once. The
 //! way is kept in a list, so that no depth ends the program's own stack.
-ghost use Rattle.std.specs.Prelude.{◌≡◌, ◌∷◌, [], ◌++◌, false, length, IfOk, OnOk};
+ghost use Rattle.std.specs.Prelude.{◌≡◌, ◌∷◌, [], ◌++◌, ◌||◌, List, ℕ, false, length, IfOk, OnOk};
+ghost use Rattle.std.specs.Str.{bytes_eq};
 ghost use Rattle.gv_base.specs.Order.{has_text};
 ghost use Rattle.gv_load.specs.Ahead.{reached_after, ahead_of, dirs_with, IsIndexed, HasVisited};
 ghost use Rattle.gv_load.specs.Directories.{steps_of, dir_at, dir_steps};
@@ -111,6 +112,41 @@ fn keep_dir(dirs: &mut Dirs, dir: &Text, files: Option<DirFiles>) -> Result<(), 
     }
 }
 
+// Keeps the files of a path, where it is a directory, and its parents ahead.
+fn keep_files(
+    alloc: Global,
+    dirs: &mut Dirs,
+    dir: &Text,
+    files: Option<DirFiles>,
+    ahead: &mut Vec<Ahead>,
+) -> Result<(), NoMemory>
+    ensures dirs { OnOk result (dirs.new ≡ dirs_with dirs.old dir.now files) }
+    ensures ahead { OnOk result (ahead.new.items ≡ ahead.old.items ++ ahead_of dir.now files) }
+{
+    match push_ahead(alloc, ahead, dir, &files) {
+        Ok(()) => keep_dir(dirs, dir, files),
+        Err(refused) => {
+            drop(files);
+            Err(refused)
+        }
+    }
+}
+
+// Adds a path to those that were reached.
+fn add_path(
+    alloc: Global,
+    order: &mut Texts,
+    set: &mut BTreeSet<Text>,
+    path: Text,
+) -> Result<(), NoMemory>
+    ensures order { OnOk result (order.new ≡ order.old ++ path ∷ []) }
+    ensures set { OnOk result ((text : List ℕ) → has_text set.new.keys text ≡ (bytes_eq text path || has_text set.old.keys text)) }
+{
+    add_key(set, path.copy(alloc)?)?;
+    order.add(path)?;
+    Ok(())
+}
+
 // Notes what was read of a path that was not reached before.
 fn keep(
     alloc: Global,
@@ -130,10 +166,8 @@ fn keep(
         mut set,
         mut dirs,
     } = reached;
-    push_ahead(alloc, ahead, &dir, &files)?;
-    keep_dir(&mut dirs, &dir, files)?;
-    add_key(&mut set, dir.copy(alloc)?)?;
-    order.add(dir)?;
+    keep_files(alloc, &mut dirs, &dir, files, ahead)?;
+    add_path(alloc, &mut order, &mut set, dir)?;
     Ok(Reached { order, set, dirs })
 }
 

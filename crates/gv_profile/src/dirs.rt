@@ -4,6 +4,7 @@
 ghost use Rattle.std.specs.Prelude.{◌≡◌, IfOk, OnOk, OnErr};
 ghost use Rattle.std.specs.FinMap as finite;
 ghost use Rattle.std.specs.Option.{option_copied};
+ghost use Rattle.gv_base.specs.ByteMap.{map_of};
 
 use crate::DirFiles;
 use gv_base::{NoMemory, Text, map_law};
@@ -45,9 +46,7 @@ impl Dirs {
         ensures ok { OnOk result (self.new ≡ finite.insert self.old dir.now files) }
         ensures err { OnErr result (self.new ≡ self.old) }
     {
-        map_law::<DirFiles>();
-        let key = Vec::from_slice(self.alloc, dir.bytes())?;
-        self.map.insert(key, files)?;
+        put_at(self.alloc, &mut self.map, dir, files)?;
         Ok(())
     }
 
@@ -75,4 +74,20 @@ impl Dirs {
         }
         Ok(dirs)
     }
+}
+
+/// Sets what an ordered tree has at a path. After an error the tree is unchanged.
+pub(crate) fn put_at<V: Drop>(
+    alloc: Global,
+    map: &mut BTreeMap<Vec<u8>, V>,
+    path: &Text,
+    value: V,
+) -> Result<(), NoMemory>
+    ensures ok { OnOk result (map_of map.new.entries ≡ finite.insert (map_of map.old.entries) path.now value) }
+    ensures err { OnErr result (map.new.entries ≡ map.old.entries) }
+{
+    map_law::<V>();
+    let key = Vec::from_slice(alloc, path.bytes())?;
+    map.insert(key, value)?;
+    Ok(())
 }

@@ -7,6 +7,7 @@ ghost use Rattle.std.specs.FinMap as finite;
 ghost use Rattle.gv_base.specs.Order.{has_text};
 ghost use Rattle.gv_defaults.specs.Settings.{words_of};
 ghost use Rattle.gv_facts.specs.Visible.{testing};
+ghost use Rattle.gv_profile.specs.MaskLines.{masks_of};
 ghost use Rattle.gv_profile.specs.Folding.{vars_with, with_files, with_dir, start, value_list, profile_with};
 ghost use Rattle.gv_profile.specs.Names.{accept_keywords, iuse_implicit, use_expand, use_expand_implicit, use_expand_unprefixed, use_expand_values};
 
@@ -14,7 +15,7 @@ use crate::mask_lines::{MaskLines, masks_of};
 use crate::{DescLine, DirFiles, Room, Sources};
 use gv_base::{NoMemory, Text, Texts};
 use gv_defaults::{Vars, read_defaults};
-use gv_facts::{Profile, Rules, ValueList, ValueLists, has_testing};
+use gv_facts::{Masks, Profile, Rules, ValueList, ValueLists, has_testing};
 use std::alloc::Global;
 
 /// What the directories so far come to.
@@ -71,25 +72,110 @@ pub(crate) fn profile_with(
     ensures { IfOk result (λ profile. profile ≡ profile_with line.now folded) }
 {
     let Folded { vars, lines, rules } = folded;
+    let masks = masks_within(alloc, lines, &vars, &rules, room)?;
+    match bare_profile(alloc, line, &vars) {
+        Ok(bare) => Ok(with_parts(bare, masks, rules)),
+        Err(refused) => Err(refused),
+    }
+}
+
+// The masks of the lines, for which there has to be room, with what else a profile keeps.
+fn masks_within(
+    alloc: Global,
+    lines: MaskLines,
+    vars: &Vars,
+    rules: &Rules,
+    room: &mut Room,
+) -> Result<Masks, NoMemory>
+    ensures { IfOk result (λ masks. masks ≡ masks_of lines) }
+{
     let masks = masks_of(alloc, lines)?;
     room.values = vars.room();
     room.keep(rules.items().len().saturating_add(masks.items().len()))?;
-    let expand_implicit = use_expand_implicit(alloc, &vars)?;
-    let values = value_lists(alloc, &vars, &expand_implicit)?;
-    Ok(Profile {
-        line: line.number,
-        arch: line.arch.copy(alloc)?,
-        path: line.path.copy(alloc)?,
-        status: line.status,
-        testing: accepts_testing(alloc, &vars, &line.arch)?,
-        iuse_implicit: iuse_implicit(alloc, &vars)?,
-        expand: use_expand(alloc, &vars)?,
+    Ok(masks)
+}
+
+// A profile but for its masks and rules.
+#[derive(Drop)]
+struct BareProfile {
+    testing: bool,
+    iuse_implicit: Texts,
+    expand: Texts,
+    expand_implicit: Texts,
+    unprefixed: Texts,
+    values: ValueLists,
+    line: DescLine,
+}
+
+fn bare_profile(alloc: Global, line: &DescLine, vars: &Vars) -> Result<BareProfile, NoMemory>
+    ensures { IfOk result (λ bare. bare ≡ record {
+      testing = has_text (words_of (finite.get vars.now accept_keywords)) (testing line.now.arch);
+      iuse_implicit = words_of (finite.get vars.now iuse_implicit);
+      expand = words_of (finite.get vars.now use_expand);
+      expand_implicit = words_of (finite.get vars.now use_expand_implicit);
+      unprefixed = words_of (finite.get vars.now use_expand_unprefixed);
+      values = map (value_list vars.now) (words_of (finite.get vars.now use_expand_implicit));
+      line = line.now;
+    }) }
+{
+    let expand_implicit = use_expand_implicit(alloc, vars)?;
+    let values = value_lists(alloc, vars, &expand_implicit)?;
+    Ok(BareProfile {
+        testing: accepts_testing(alloc, vars, &line.arch)?,
+        iuse_implicit: iuse_implicit(alloc, vars)?,
+        expand: use_expand(alloc, vars)?,
         expand_implicit,
-        unprefixed: use_expand_unprefixed(alloc, &vars)?,
+        unprefixed: use_expand_unprefixed(alloc, vars)?,
+        values,
+        line: line.copy(alloc)?,
+    })
+}
+
+fn with_parts(bare: BareProfile, masks: Masks, rules: Rules) -> Profile
+    ensures { result ≡ record {
+      line = bare.line.number;
+      arch = bare.line.arch;
+      path = bare.line.path;
+      status = bare.line.status;
+      testing = bare.testing;
+      iuse_implicit = bare.iuse_implicit;
+      expand = bare.expand;
+      expand_implicit = bare.expand_implicit;
+      unprefixed = bare.unprefixed;
+      values = bare.values;
+      masks = masks;
+      rules = rules;
+    } }
+{
+    let BareProfile {
+        testing,
+        iuse_implicit,
+        expand,
+        expand_implicit,
+        unprefixed,
+        values,
+        line,
+    } = bare;
+    let DescLine {
+        number,
+        arch,
+        path,
+        status,
+    } = line;
+    Profile {
+        line: number,
+        arch,
+        path,
+        status,
+        testing,
+        iuse_implicit,
+        expand,
+        expand_implicit,
+        unprefixed,
         values,
         masks,
         rules,
-    })
+    }
 }
 
 fn vars_with(alloc: Global, vars: Vars, defaults: &Option<Text>) -> Result<Vars, NoMemory>

@@ -2,7 +2,7 @@
 //!
 //! The first visit of a directory costs O(the bytes of its files of masks and flags), each later one O(log n) comparisons of
 //! paths for n directories; each visit costs a copy of its good lines. The lines of all visited directories are kept.
-ghost use Rattle.std.specs.Prelude.{◌≡◌, ◌++◌, Some, IfOk, OnOk, OnErr};
+ghost use Rattle.std.specs.Prelude.{◌≡◌, ◌++◌, Some, IfOk, OnOk};
 ghost use Rattle.std.specs.FinMap as finite;
 ghost use Rattle.std.specs.Option.{option_copied};
 ghost use Rattle.gv_base.specs.ByteMap.{map_of};
@@ -10,6 +10,7 @@ ghost use Rattle.gv_profile.specs.FlagRules.{dir_rules};
 ghost use Rattle.gv_profile.specs.MaskLines.{mask_lines};
 ghost use Rattle.gv_profile.specs.Sources.{lines_of};
 
+use crate::dirs::put_at;
 use crate::flag_rules::{add_copies, add_dir_rules};
 use crate::mask_lines::{MaskLines, add_mask_lines};
 use crate::{DirFiles, Dirs, NamedFiles};
@@ -110,7 +111,7 @@ impl<'a> Sources<'a> {
         }
         let lines = parsed_dir(self.alloc, files)?;
         add_lines(self.alloc, &lines, masks, rules)?;
-        keep_lines(self.alloc, &mut self.lines, dir, lines)
+        put_at(self.alloc, &mut self.lines, dir, lines)
     }
 }
 
@@ -122,21 +123,6 @@ fn lines_at<'m>(kept: &'m BTreeMap<Vec<u8>, DirLines>, dir: &Text) -> Option<&'m
         Some(lines) => Some(lines),
         None => None,
     }
-}
-
-fn keep_lines(
-    alloc: Global,
-    kept: &mut BTreeMap<Vec<u8>, DirLines>,
-    dir: &Text,
-    lines: DirLines,
-) -> Result<(), NoMemory>
-    ensures ok { OnOk result (map_of kept.new.entries ≡ finite.insert (map_of kept.old.entries) dir.now lines) }
-    ensures err { OnErr result (kept.new.entries ≡ kept.old.entries) }
-{
-    map_law::<DirLines>();
-    let key = Vec::from_slice(alloc, dir.bytes())?;
-    kept.insert(key, lines)?;
-    Ok(())
 }
 
 fn parsed(alloc: Global, files: &NamedFiles) -> Result<MaskLines, NoMemory>

@@ -12,6 +12,6 @@ returns-in-Some-clause-rules c =
 
 pub invariant_of-self : goal.invariant_of-self
 invariant_of-self c =
-    after c.keep_lines.result c.self.inside.dirs.now c.self.inside.lines.entries c.keep_lines.new.kept.entries c.self.inside.first.now c.self.inside.first_lines
+    after c.put_at.result c.self.inside.dirs.now c.self.inside.lines.entries c.put_at.new.map.entries c.self.inside.first.now c.self.inside.first_lines
     c.args.dir.now c.args.files.now c.in_ok-lines.lines
-    c.self.invariant (ap (λ s. get s.dirs c.args.dir.now) c.self.view_is ∙ c.requires) c.in_ok-lines.ensures c.keep_lines.ensures.ok c.keep_lines.ensures.err
+    c.self.invariant (ap (λ s. get s.dirs c.args.dir.now) c.self.view_is ∙ c.requires) c.in_ok-lines.ensures c.put_at.ensures.ok c.put_at.ensures.err
