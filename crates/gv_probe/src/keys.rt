@@ -16,30 +16,35 @@ use gv_visible::{Candidates, visible};
 use std::alloc::Global;
 
 /// Tells the answer to the call of keys, whose parts are those of a query.
-pub(crate) fn answer(
-    alloc: Global,
-    call: &str,
-    given: &Given,
-    told: &mut Telling,
-) -> Result<bool, NoMemory> {
+pub(crate) fn answer(alloc: Global, call: &str, given: &Given, told: &mut Telling) -> bool {
     if call != "key" {
-        return Ok(false);
+        return false;
     }
-    match case_of(alloc, given)? {
-        Some(case) => tell_key(alloc, &case, told)?,
-        None => told.say("no packages"),
+    match case_of(alloc, given) {
+        Ok(Some(case)) => tell_key(alloc, &case, told),
+        Ok(None) => told.say("no packages"),
+        Err(NoMemory) => told.lack(),
     }
-    Ok(true)
+    true
 }
 
-fn tell_key(alloc: Global, case: &Case, told: &mut Telling) -> Result<(), NoMemory> {
-    let mut profiles = Profiles::new(alloc);
-    profiles.add(case.profile.copy(alloc)?)?;
-    let key = key_among(alloc, &case.pkgs, &profiles, &case.body)?;
-    for number in key.as_slice() {
+fn tell_key(alloc: Global, case: &Case, told: &mut Telling) {
+    match key_of(alloc, case) {
+        Ok(key) => add_numbers(key.as_slice(), told),
+        Err(NoMemory) => told.lack(),
+    }
+}
+
+fn add_numbers(key: &[u8], told: &mut Telling) {
+    for number in key {
         told.add(&[number.saturating_add(b'0')]);
     }
-    Ok(())
+}
+
+fn key_of(alloc: Global, case: &Case) -> Result<Vec<u8>, NoMemory> {
+    let mut profiles = Profiles::new(alloc);
+    profiles.add(case.profile.copy(alloc)?)?;
+    key_among(alloc, &case.pkgs, &profiles, &case.body)
 }
 
 fn first(profiles: &[Profile]) -> Option<&Profile>
