@@ -313,11 +313,18 @@ fn bits_of(alloc: Global, query: &Query, assignment: u32) -> Result<Bits, NoMemo
 fn tables<L: Ledger>(alloc: Global, case: &Case, steps: &mut Steps<L>, told: &mut Telling) {
     let mut why = Telling::new(alloc);
     let Some(allowed) = query_of(alloc, true, case, steps, &mut why) else {
-        return told.say("refused");
+        return refused_for(&why, told);
     };
     match query_of(alloc, false, case, steps, &mut why) {
         Some(failing) => both_tables(alloc, &allowed, &failing, told),
-        None => told.say("refused"),
+        None => refused_for(&why, told),
+    }
+}
+
+fn refused_for(why: &Telling, told: &mut Telling) {
+    match why.bytes() {
+        Ok(_) => told.say("refused"),
+        Err(NoMemory) => told.lack(),
     }
 }
 

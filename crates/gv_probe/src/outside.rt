@@ -210,9 +210,8 @@ impl Outside {
             return told.lack();
         };
         if let [category, name, version] = words.items() {
-            let [category, name, version] = [category.bytes(), name.bytes(), version.bytes()];
-            self.put_ebuild(alloc, category, name, version, told);
-            self.begin_cached(alloc, category, name, version, told);
+            self.put_ebuild(alloc, category.bytes(), name.bytes(), version.bytes(), told);
+            self.begin_cached(alloc, category.bytes(), name.bytes(), version.bytes(), told);
             self.add(
                 alloc,
                 b"_md5_=d41d8cd98f00b204e9800998ecf8427e",

@@ -9,11 +9,11 @@ use crate::made::words;
 use crate::outside::Outside;
 use crate::reports::printed;
 use crate::written::Telling;
-use gv_base::{Found, Ledger, MemTree, NoMemory, Steps, Text, Texts, Tree, TreeFault};
+use gv_base::{Found, Ledger, MemTree, NoMemory, Steps, Text, Tree, TreeFault};
 use gv_cert::Known;
 use gv_overlay::{Overlay, OverlayFault, judge_own, load_overlay};
 use gv_report::Options;
-use gv_views::{FolderTree, LayeredTree, LayoutFault, layers_of, masters_in};
+use gv_views::{FolderTree, LayeredTree, Layers, LayoutFault, layers_of, masters_in};
 use gv_words::default_options;
 use std::alloc::Global;
 use std::marker::Brand;
@@ -64,11 +64,11 @@ fn view(alloc: Global, given: &Given, outside: &Outside, told: &mut Telling) {
     }
 }
 
-fn layers(alloc: Global, given: &Given) -> Result<Texts, NoMemory> {
+fn layers(alloc: Global, given: &Given) -> Result<Layers, NoMemory> {
     layers_of(alloc, given.part(0), &words(alloc, given.words(1))?)
 }
 
-fn layered(alloc: Global, tree: &mut MemTree, layers: &Texts, path: &Text, told: &mut Telling) {
+fn layered(alloc: Global, tree: &mut MemTree, layers: &Layers, path: &Text, told: &mut Telling) {
     let mut view = LayeredTree { tree, layers };
     seen(alloc, &mut view, path, told);
 }
