@@ -8,7 +8,7 @@ use crate::written::Telling;
 use gv_base::{MemTree, NoMemory, Text};
 use gv_facts::{Level, Pkg, Profile};
 use gv_load::{LoadFault, Repo};
-use gv_usedefaults::{LineFile, Walk, default_on, defaults_of, kind_name, walk_files};
+use gv_usedefaults::{LineFile, UseDefaults, Walk, default_on, defaults_of, kind_name, walk_files};
 use gv_visible::judged;
 use std::alloc::Global;
 
@@ -108,7 +108,7 @@ fn line_defaults(alloc: Global, given: &Given, repo: &Repo, walk: &Walk, told: &
     }
 }
 
-fn add_defaults(alloc: Global, defaults: &Defaults, told: &mut Telling) {
+fn add_defaults(alloc: Global, defaults: &UseDefaults, told: &mut Telling) {
     add_words(b"USE", defaults.on.words(), told);
     add_words(b"left", defaults.kept.words(), told);
     for list in defaults.expand.items() {
@@ -142,7 +142,7 @@ fn flags(
     pkg: &Pkg,
     profile: &Profile,
     level: Level,
-    defaults: &Defaults,
+    defaults: &UseDefaults,
     flags: &[Text],
     told: &mut Telling,
 ) {
