@@ -34,9 +34,10 @@ pub(crate) fn calls_of(alloc: Global, number: u32) -> Result<Calls, NoMemory> {
     Ok(calls)
 }
 
-fn append(alloc: Global, files: &mut Files, path: &[u8], pieces: [&[u8]; 2], told: &mut Telling) {
-    let [more, end] = pieces;
-    let bytes = Telling::of(alloc, &[files.get(path).unwrap_or(&[]), more, end]);
+fn append(alloc: Global, files: &mut Files, path: &[u8], more: &Telling, told: &mut Telling) {
+    let mut bytes = Telling::new(alloc);
+    bytes.add(files.get(path).unwrap_or(&[]));
+    bytes.all_of(more);
     put(files, path, &bytes, told);
 }
 
@@ -173,8 +174,11 @@ impl Outside {
         } else {
             &mut self.files
         };
+        let mut bytes = Telling::new(alloc);
+        bytes.add(more);
+        bytes.add(end);
         match self.path.bytes() {
-            Ok(path) => append(alloc, files, path, [more, end], told),
+            Ok(path) => append(alloc, files, path, &bytes, told),
             Err(NoMemory) => told.lack(),
         }
     }
