@@ -169,16 +169,12 @@ impl Outside {
     }
 
     fn add(&mut self, alloc: Global, more: &[u8], end: &[u8], told: &mut Telling) {
-        let files = if self.in_store {
-            &mut self.store
-        } else {
-            &mut self.files
-        };
         let mut bytes = Telling::new(alloc);
         bytes.add(more);
         bytes.add(end);
         match self.path.bytes() {
-            Ok(path) => append(alloc, files, path, &bytes, told),
+            Ok(path) if self.in_store => append(alloc, &mut self.store, path, &bytes, told),
+            Ok(path) => append(alloc, &mut self.files, path, &bytes, told),
             Err(NoMemory) => told.lack(),
         }
     }
