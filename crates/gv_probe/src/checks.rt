@@ -14,7 +14,7 @@ use crate::written::Telling;
 use gv_base::{Ledger, NoMemory, Steps};
 use gv_cert::{Known, read_known};
 use gv_checks::{
-    Found1, JudgeFault, QueryName, QueryNames, ask_one, judge, plain, plain_one, queries,
+    Found1, JudgeFault, Judged, QueryName, QueryNames, ask_one, judge, plain, plain_one, queries,
 };
 use gv_facts::{Level, class_text};
 use gv_load::Repo;
@@ -37,7 +37,7 @@ pub(crate) fn answer(
         return false;
     };
     if let Some(repo) = repo_of(alloc, outside, told) {
-        of_repo(alloc, call, given, outside, &repo, told);
+        of_repo(alloc, call, given, outside, repo, told);
     }
     true
 }
@@ -47,11 +47,11 @@ fn of_repo(
     call: Call,
     given: &Given,
     outside: &Outside,
-    repo: &Repo,
+    repo: Repo,
     told: &mut Telling,
 ) {
     match read_known(alloc, outside.kept_at(given.bytes(0))) {
-        Ok(certs) => over::<Brand>(alloc, Blank::new(2), call, given, repo, &certs, told),
+        Ok(certs) => over::<Brand>(alloc, Blank::new(2), call, given, &repo, certs, told),
         Err(NoMemory) => told.lack(),
     }
 }
@@ -90,7 +90,7 @@ fn over<L: Ledger>(
     call: Call,
     given: &Given,
     repo: &Repo,
-    certs: &Known,
+    certs: Known,
     told: &mut Telling,
 )
     requires name { blank.name ≡ L.name }
@@ -99,7 +99,7 @@ fn over<L: Ledger>(
 {
     let mut steps = Steps::<L>::open(blank);
     match options_for(alloc, call, given) {
-        Ok(options) => by_call(alloc, call, given, repo, certs, &options, &mut steps, told),
+        Ok(options) => by_call(alloc, call, given, repo, &certs, options, &mut steps, told),
         Err(NoMemory) => told.lack(),
     }
 }
@@ -117,24 +117,26 @@ fn by_call<L: Ledger>(
     given: &Given,
     repo: &Repo,
     certs: &Known,
-    options: &Options,
+    options: Options,
     steps: &mut Steps<L>,
     told: &mut Telling,
 ) {
     match call {
-        Call::Judge => judged(alloc, repo, options, steps, told),
-        Call::Ask => asked(alloc, repo, options, steps, told),
-        Call::Gates => gates(alloc, repo, options, given, steps, told),
-        Call::Records => records(alloc, repo, options, steps, told),
-        Call::Answered => answered(alloc, repo, options, certs, steps, told),
-        Call::Walk => walked(alloc, repo, options, given, steps, told),
-        Call::PlainReports => told_plain(alloc, plain(alloc, repo, options), options, told),
-        Call::PlainOne => {
-            let reports = plain_one(alloc, repo, given.small_number(2), options);
-            told_plain(alloc, reports, options, told)
-        }
-        Call::Queries => names(alloc, repo, options, told),
+        Call::Judge => judged(alloc, repo, &options, steps, told),
+        Call::Ask => asked(alloc, repo, &options, steps, told),
+        Call::Gates => gates(alloc, repo, &options, given, steps, told),
+        Call::Records => records(alloc, repo, &options, steps, told),
+        Call::Answered => answered(alloc, repo, &options, certs, steps, told),
+        Call::Walk => walked(alloc, repo, &options, given, steps, told),
+        Call::PlainReports => told_plain(alloc, plain(alloc, repo, &options), &options, told),
+        Call::PlainOne => one_plain(alloc, repo, given, &options, told),
+        Call::Queries => names(alloc, repo, &options, told),
     }
+}
+
+fn one_plain(alloc: Global, repo: &Repo, given: &Given, options: &Options, told: &mut Telling) {
+    let reports = plain_one(alloc, repo, given.small_number(2), options);
+    told_plain(alloc, reports, options, told);
 }
 
 fn told_plain(
@@ -188,12 +190,12 @@ fn add_names(alloc: Global, names: &[QueryName], told: &mut Telling) {
 /// The place of the package, the class, the line of the profile and the level.
 pub(crate) fn add_name(alloc: Global, name: &QueryName, told: &mut Telling) {
     match name.copy(alloc) {
-        Ok(name) => add_fields(&name, told),
+        Ok(name) => add_fields(name, told),
         Err(NoMemory) => told.lack(),
     }
 }
 
-fn add_fields(name: &QueryName, told: &mut Telling) {
+fn add_fields(name: QueryName, told: &mut Telling) {
     told.number(u64::from(name.package));
     told.add(b" ");
     told.add(class_text(name.class));
@@ -217,7 +219,7 @@ fn found<L: Ledger>(
     requires { HasNamed options.now repo.now name.now }
 {
     match ask_one(alloc, repo, name, options, &Known::new(alloc), steps) {
-        Ok(found) => copied(alloc, &found, told),
+        Ok(found) => copied(alloc, found, told),
         Err(JudgeFault::NoMemory) => {
             told.lack();
             None
@@ -226,7 +228,7 @@ fn found<L: Ledger>(
     }
 }
 
-fn copied(alloc: Global, found: &Found1, told: &mut Telling) -> Option<Found1> {
+fn copied(alloc: Global, found: Found1, told: &mut Telling) -> Option<Found1> {
     let copy = found.copy(alloc).ok();
     if copy.is_none() {
         told.lack();
@@ -247,13 +249,13 @@ fn asked<L: Ledger>(
     };
     for name in names.items() {
         if let Some(found) = found(alloc, repo, name, options, steps, told) {
-            add_found(&found, told);
+            add_found(found, told);
         }
         told.say("; ");
     }
 }
 
-fn add_found(found: &Found1, told: &mut Telling) {
+fn add_found(found: Found1, told: &mut Telling) {
     match &found.witness {
         Some(witness) => told.add(witness.bytes()),
         None => told.say("none"),
@@ -295,7 +297,7 @@ fn records<L: Ledger>(
     told: &mut Telling,
 ) {
     match judge(alloc, repo, options, &Known::new(alloc), steps) {
-        Ok(judged) => places(alloc, repo, options, &judged.certs, steps, told),
+        Ok(judged) => places(alloc, repo, options, judged, steps, told),
         Err(_) => told.say("refused"),
     }
 }
@@ -304,10 +306,11 @@ fn places<L: Ledger>(
     alloc: Global,
     repo: &Repo,
     options: &Options,
-    certs: &Known,
+    judged: Judged,
     steps: &mut Steps<L>,
     told: &mut Telling,
 ) {
+    let certs = &judged.certs;
     for number in 0..certs.count() {
         let place = first_place(alloc, repo, options, certs.query(number), steps, told);
         told.number(u64::from(place));

@@ -13,7 +13,7 @@ pub(crate) fn answer(alloc: Global, call: &str, given: &Given, told: &mut Tellin
         return is_digest(call, given, told);
     };
     match read(alloc, what, given) {
-        Ok(Some(entry)) => of_entry(what, &entry, told),
+        Ok(Some(entry)) => of_entry(what, entry, told),
         Ok(None) => told.say("no PF"),
         Err(NoMemory) => told.lack(),
     }
@@ -37,14 +37,14 @@ fn is_digest(call: &str, given: &Given, told: &mut Telling) -> bool {
     true
 }
 
-fn of_entry(what: &str, entry: &Entry, told: &mut Telling) {
+fn of_entry(what: &str, entry: Entry, told: &mut Telling) {
     match what {
-        "package" => package(entry, told),
-        "digest" => digest(entry, told),
-        "eclasses" => eclasses(entry, told),
-        "errors" => errors(entry, told),
-        "flags" => flags(entry, told),
-        "classes" => classes(entry, told),
+        "package" => package(&entry, told),
+        "digest" => digest(&entry, told),
+        "eclasses" => eclasses(&entry, told),
+        "errors" => errors(&entry, told),
+        "flags" => flags(&entry, told),
+        "classes" => classes(&entry, told),
         _ => told.say("no such call"),
     }
 }

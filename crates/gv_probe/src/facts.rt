@@ -1,6 +1,6 @@
 //! Calls of `gv_facts`.
 use crate::given::{Given, cut_at};
-use crate::made::{add_member, masks, member_of};
+use crate::made::{Made, add_member, masks, member_of};
 use crate::written::Telling;
 use gv_atom::{Atom, read_atom};
 use gv_base::{NoMemory, Text, words_of};
@@ -114,17 +114,21 @@ fn rule_places(alloc: Global, given: &Given, told: &mut Telling) {
 
 fn package_matches(alloc: Global, given: &Given, told: &mut Telling) {
     match read_atom(alloc, given.bytes(0)) {
-        Ok(atom) => matches_made(alloc, &atom, given, told),
+        Ok(atom) => matches_made(alloc, atom, given, told),
         Err(_) => told.say("no atom"),
     }
 }
 
-fn matches_made(alloc: Global, atom: &Atom, given: &Given, told: &mut Telling) {
+fn matches_made(alloc: Global, atom: Atom, given: &Given, told: &mut Telling) {
     match member_of(alloc, given.bytes(1), given.bytes(2), given.bytes(3)) {
-        Ok(Some(made)) => told.yes_no(matches_pkg(atom, &made.pkg)),
+        Ok(Some(made)) => is_match(&atom, made, told),
         Ok(None) => told.say("no package"),
         Err(NoMemory) => told.lack(),
     }
+}
+
+fn is_match(atom: &Atom, made: Made, told: &mut Telling) {
+    told.yes_no(matches_pkg(atom, &made.pkg));
 }
 
 fn eapi(digit: &str) -> Eapi {

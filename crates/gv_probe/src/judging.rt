@@ -24,7 +24,7 @@ pub(crate) fn judged<L: Ledger>(
     told: &mut Telling,
 ) {
     match judge(alloc, repo, options, &Known::new(alloc), steps) {
-        Ok(found) => of_copy(alloc, repo, options, &found, steps, told),
+        Ok(found) => of_copy(alloc, repo, options, found, steps, told),
         Err(fault) => refused(alloc, &fault, told),
     }
 }
@@ -33,12 +33,12 @@ fn of_copy<L: Ledger>(
     alloc: Global,
     repo: &Repo,
     options: &Options,
-    found: &Judged,
+    found: Judged,
     steps: &mut Steps<L>,
     told: &mut Telling,
 ) {
     match found.copy(alloc) {
-        Ok(found) => counts(alloc, repo, options, &found, steps, told),
+        Ok(found) => counts(alloc, repo, options, found, steps, told),
         Err(NoMemory) => told.lack(),
     }
 }
@@ -86,7 +86,7 @@ fn counts<L: Ledger>(
     alloc: Global,
     repo: &Repo,
     options: &Options,
-    found: &Judged,
+    found: Judged,
     steps: &mut Steps<L>,
     told: &mut Telling,
 ) {
@@ -94,7 +94,7 @@ fn counts<L: Ledger>(
     add_count(found.certs.count(), " records, ", told);
     let known = known_count(alloc, repo, options, &found.certs, steps, told);
     add_count(known, " known, ", told);
-    recalled(alloc, repo, options, found, steps, told);
+    recalled(alloc, repo, options, &found, steps, told);
     wanting(alloc, repo, options, steps, told);
     left(alloc, repo, options, &found.certs, steps, told);
 }

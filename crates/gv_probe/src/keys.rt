@@ -21,15 +21,15 @@ pub(crate) fn answer(alloc: Global, call: &str, given: &Given, told: &mut Tellin
         return false;
     }
     match case_of(alloc, given) {
-        Ok(Some(case)) => tell_key(alloc, &case, told),
+        Ok(Some(case)) => tell_key(alloc, case, told),
         Ok(None) => told.say("no packages"),
         Err(NoMemory) => told.lack(),
     }
     true
 }
 
-fn tell_key(alloc: Global, case: &Case, told: &mut Telling) {
-    match key_of(alloc, case) {
+fn tell_key(alloc: Global, case: Case, told: &mut Telling) {
+    match key_of(alloc, &case) {
         Ok(key) => add_numbers(key.as_slice(), told),
         Err(NoMemory) => told.lack(),
     }

@@ -24,7 +24,7 @@ pub(crate) fn answer(
         return false;
     }
     if let Some(repo) = repo_of(alloc, outside, told) {
-        over(alloc, call, given, outside, &repo, told);
+        over(alloc, call, given, outside, repo, told);
     }
     true
 }
@@ -34,14 +34,14 @@ fn over(
     call: &str,
     given: &Given,
     outside: &Outside,
-    repo: &Repo,
+    repo: Repo,
     told: &mut Telling,
 ) {
     let Ok(mut tree) = other_tree(alloc, call, given, outside) else {
         return told.lack();
     };
-    match walk_over(alloc, &mut tree, repo) {
-        Ok(walk) => tell(alloc, call, given, repo, &walk, told),
+    match walk_over(alloc, &mut tree, &repo) {
+        Ok(walk) => tell(alloc, call, given, &repo, walk, told),
         Err(found) => fault(&found, told),
     }
 }
@@ -65,11 +65,11 @@ fn walk_over(alloc: Global, tree: &mut MemTree, repo: &Repo) -> Result<Walk, Loa
     Ok(Walk { files, stacks })
 }
 
-fn tell(alloc: Global, call: &str, given: &Given, repo: &Repo, walk: &Walk, told: &mut Telling) {
+fn tell(alloc: Global, call: &str, given: &Given, repo: &Repo, walk: Walk, told: &mut Telling) {
     match call {
-        "walked" => walked(alloc, walk, told),
-        "line-defaults" => line_defaults(alloc, given, repo, walk, told),
-        _ => flag_defaults(alloc, given, repo, walk, told),
+        "walked" => walked(alloc, &walk, told),
+        "line-defaults" => line_defaults(alloc, given, repo, &walk, told),
+        _ => flag_defaults(alloc, given, repo, &walk, told),
     }
 }
 
@@ -103,12 +103,12 @@ fn add_file(file: &LineFile, told: &mut Telling) {
 // USE, what is left of all flags, the variables of USE_EXPAND, and the words of package.use.
 fn line_defaults(alloc: Global, given: &Given, repo: &Repo, walk: &Walk, told: &mut Telling) {
     match defaults_of(alloc, repo, walk, given.small_number(0)) {
-        Ok(defaults) => add_defaults(alloc, &defaults, told),
+        Ok(defaults) => add_defaults(alloc, defaults, told),
         Err(NoMemory) => told.lack(),
     }
 }
 
-fn add_defaults(alloc: Global, defaults: &UseDefaults, told: &mut Telling) {
+fn add_defaults(alloc: Global, defaults: UseDefaults, told: &mut Telling) {
     add_words(b"USE", defaults.on.words(), told);
     add_words(b"left", defaults.kept.words(), told);
     for list in defaults.expand.items() {
@@ -133,7 +133,7 @@ fn flag_defaults(alloc: Global, given: &Given, repo: &Repo, walk: &Walk, told: &
         return told.say("not judged");
     };
     match defaults_of(alloc, repo, walk, profile.line) {
-        Ok(defaults) => flags(pkg, profile, level, &defaults, given.from(2), told),
+        Ok(defaults) => flags(pkg, profile, level, defaults, given.from(2), told),
         Err(NoMemory) => told.lack(),
     }
 }
@@ -142,12 +142,12 @@ fn flags(
     pkg: &Pkg,
     profile: &Profile,
     level: Level,
-    defaults: &UseDefaults,
+    defaults: UseDefaults,
     flags: &[Text],
     told: &mut Telling,
 ) {
     for flag in flags {
-        if !default_on(pkg, profile, level, defaults, flag) {
+        if !default_on(pkg, profile, level, &defaults, flag) {
             told.add(b"-");
         }
         told.add(flag.bytes());

@@ -18,7 +18,7 @@ pub(crate) fn loaded(alloc: Global, outside: &mut Outside, told: &mut Telling) {
 fn load_of(alloc: Global, tree: MemTree, told: &mut Telling) {
     let mut tree = tree;
     match load(alloc, &mut tree) {
-        Ok(repo) => tell(&repo, told),
+        Ok(repo) => tell_all(repo, told),
         Err(found) => fault(&found, told),
     }
 }
@@ -36,6 +36,10 @@ pub(crate) fn repo_of(alloc: Global, outside: &Outside, told: &mut Telling) -> O
             None
         }
     }
+}
+
+fn tell_all(repo: Repo, told: &mut Telling) {
+    tell(&repo, told);
 }
 
 /// A repository, as it is told.

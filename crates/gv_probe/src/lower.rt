@@ -31,7 +31,7 @@ pub(crate) fn answer(alloc: Global, call: &str, given: &Given, told: &mut Tellin
         return false;
     };
     match case_of(alloc, given) {
-        Ok(Some(case)) => over_steps::<Brand>(alloc, Blank::new(2), call, given, &case, told),
+        Ok(Some(case)) => over_steps::<Brand>(alloc, Blank::new(2), call, given, case, told),
         Ok(None) => told.say("no packages"),
         Err(NoMemory) => told.lack(),
     }
@@ -145,7 +145,7 @@ fn over_steps<L: Ledger>(
     blank: Blank,
     call: Call,
     given: &Given,
-    case: &Case,
+    case: Case,
     told: &mut Telling,
 )
     requires name { blank.name ≡ L.name }
@@ -154,18 +154,17 @@ fn over_steps<L: Ledger>(
 {
     let mut steps = Steps::<L>::open(blank);
     if call == Call::Tables {
-        return tables(alloc, case, &mut steps, told);
-    }
-    if let Some(query) = query_of(alloc, call == Call::Allowed, case, &mut steps, told) {
-        of_query(alloc, call, &query, given, told);
+        tables(alloc, &case, &mut steps, told);
+    } else if let Some(query) = query_of(alloc, call == Call::Allowed, &case, &mut steps, told) {
+        of_query(alloc, call, query, given, told);
     }
 }
 
-fn of_query(alloc: Global, call: Call, query: &Query, given: &Given, told: &mut Telling) {
+fn of_query(alloc: Global, call: Call, query: Query, given: &Given, told: &mut Telling) {
     if call == Call::Preferring {
-        preferred(query, told);
+        preferred(&query, told);
     } else {
-        at_bits(alloc, query, given.bytes(6), told);
+        at_bits(alloc, &query, given.bytes(6), told);
     }
 }
 
@@ -196,7 +195,7 @@ fn query_of<L: Ledger>(
 // The query, or none and why.
 fn asked(alloc: Global, found: Result<Query, LowerFault>, told: &mut Telling) -> Option<Query> {
     match found {
-        Ok(query) => copied(alloc, &query, told),
+        Ok(query) => copied(alloc, query, told),
         Err(fault) => {
             refused(fault, told);
             None
@@ -204,7 +203,7 @@ fn asked(alloc: Global, found: Result<Query, LowerFault>, told: &mut Telling) ->
     }
 }
 
-fn copied(alloc: Global, query: &Query, told: &mut Telling) -> Option<Query> {
+fn copied(alloc: Global, query: Query, told: &mut Telling) -> Option<Query> {
     let copy = query.copy(alloc).ok();
     if copy.is_none() {
         told.lack();
@@ -316,7 +315,7 @@ fn tables<L: Ledger>(alloc: Global, case: &Case, steps: &mut Steps<L>, told: &mu
         return refused_for(&why, told);
     };
     match query_of(alloc, false, case, steps, &mut why) {
-        Some(failing) => both_tables(alloc, &allowed, &failing, told),
+        Some(failing) => both_tables(alloc, &allowed, failing, told),
         None => refused_for(&why, told),
     }
 }
@@ -328,44 +327,46 @@ fn refused_for(why: &Telling, told: &mut Telling) {
     }
 }
 
-fn both_tables(alloc: Global, allowed: &Query, failing: &Query, told: &mut Telling) {
-    table(alloc, allowed, None, told);
+// What of a query a table is about.
+#[derive(Clone, Copy)]
+enum Part {
+    All,
+    Item(Lit),
+}
+
+fn both_tables(alloc: Global, allowed: &Query, failing: Query, told: &mut Telling) {
+    table(alloc, allowed, Part::All, told);
     told.add(b" ");
-    table(alloc, failing, None, told);
+    table(alloc, &failing, Part::All, told);
     for lit in failing.items.items() {
         told.add(b" ");
-        table(alloc, failing, Some(*lit), told);
+        table(alloc, &failing, Part::Item(*lit), told);
     }
 }
 
 // Where the query is on, or one of its literals.
-fn table(alloc: Global, query: &Query, lit: Option<Lit>, told: &mut Telling) {
-    match on_in(alloc, query, lit) {
+fn table(alloc: Global, query: &Query, part: Part, told: &mut Telling) {
+    match on_in(alloc, query, part) {
         Ok(on) => told.formatted(format!(in alloc; "{on:016x}")),
         Err(NoMemory) => told.lack(),
     }
 }
 
-fn on_in(alloc: Global, query: &Query, lit: Option<Lit>) -> Result<u64, NoMemory> {
+fn on_in(alloc: Global, query: &Query, part: Part) -> Result<u64, NoMemory> {
     let mut on: u64 = 0;
     for assignment in 0..64u32 {
-        let bits = bits_of(alloc, query, assignment)?;
-        if is_lit_on(alloc, &query.gates, &bits, lit)? {
+        if is_part_on(alloc, query, assignment, part)? {
             on |= 1u64 << assignment;
         }
     }
     Ok(on)
 }
 
-fn is_lit_on(
-    alloc: Global,
-    gates: &Gates,
-    bits: &Bits,
-    lit: Option<Lit>,
-) -> Result<bool, NoMemory> {
-    match lit {
-        Some(lit) => is_item_on(alloc, gates, bits, lit),
-        None => Ok(is_on(alloc, gates, bits)? == Some(true)),
+fn is_part_on(alloc: Global, query: &Query, assignment: u32, part: Part) -> Result<bool, NoMemory> {
+    let bits = bits_of(alloc, query, assignment)?;
+    match part {
+        Part::Item(lit) => is_item_on(alloc, &query.gates, &bits, lit),
+        Part::All => Ok(is_on(alloc, &query.gates, &bits)? == Some(true)),
     }
 }
 

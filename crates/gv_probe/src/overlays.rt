@@ -11,6 +11,7 @@ use crate::reports::printed;
 use crate::written::Telling;
 use gv_base::{Found, Ledger, MemTree, NoMemory, Steps, Text, Tree, TreeFault};
 use gv_cert::Known;
+use gv_checks::Judged;
 use gv_overlay::{Overlay, OverlayFault, judge_own, load_overlay};
 use gv_report::Options;
 use gv_views::{FolderTree, LayeredTree, Layers, LayoutFault, layers_of, masters_in};
@@ -100,9 +101,13 @@ fn read<T: Tree>(alloc: Global, tree: &mut T, path: &Text, told: &mut Telling) {
 
 fn overlay(alloc: Global, given: &Given, outside: &Outside, told: &mut Telling) {
     if let Some(over) = overlay_of(alloc, outside, given.part(0), told) {
-        notes(alloc, &over, told);
-        tell(&over, told);
+        tell_over(alloc, over, told);
     }
+}
+
+fn tell_over(alloc: Global, over: Overlay, told: &mut Telling) {
+    notes(alloc, &over, told);
+    tell(&over, told);
 }
 
 // The overlay of a name, and none where none is loaded, which is told.
@@ -173,23 +178,25 @@ fn own<L: Ledger>(alloc: Global, blank: Blank, given: &Given, outside: &Outside,
         return told.lack();
     };
     if let Some(over) = overlay_of(alloc, outside, given.part(2), told) {
-        judged(alloc, &over, &options, &mut steps, told);
+        judged(alloc, over, &options, &mut steps, told);
     }
 }
 
 fn judged<L: Ledger>(
     alloc: Global,
-    over: &Overlay,
+    over: Overlay,
     options: &Options,
     steps: &mut Steps<L>,
     told: &mut Telling,
 ) {
-    match judge_own(alloc, over, options, &Known::new(alloc), steps) {
-        Ok(found) => {
-            add_count(found.queries, " queries, ", told);
-            add_count(found.certs.count(), " records; ", told);
-            printed(alloc, options, &found.reports, told)
-        }
+    match judge_own(alloc, &over, options, &Known::new(alloc), steps) {
+        Ok(found) => tell_found(alloc, options, found, told),
         Err(fault) => refused(alloc, &fault, told),
     }
+}
+
+fn tell_found(alloc: Global, options: &Options, found: Judged, told: &mut Telling) {
+    add_count(found.queries, " queries, ", told);
+    add_count(found.certs.count(), " records; ", told);
+    printed(alloc, options, &found.reports, told)
 }

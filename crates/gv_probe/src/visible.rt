@@ -38,7 +38,7 @@ fn level_text(level: Option<Level>) -> &'static str {
 // in a profile that takes its arch with `~` where `testing` follows.
 fn judged_at(alloc: Global, given: &Given, told: &mut Telling) {
     match made_of(alloc, given) {
-        Ok(Some(made)) => of_pkg(alloc, &made.pkg, given, told),
+        Ok(Some(made)) => of_made(alloc, made, given, told),
         Ok(None) => told.say("no package"),
         Err(NoMemory) => told.lack(),
     }
@@ -49,9 +49,9 @@ fn made_of(alloc: Global, given: &Given) -> Result<Option<Made>, NoMemory> {
     member_of(alloc, given.bytes(0), given.bytes(1), lines.bytes()?)
 }
 
-fn of_pkg(alloc: Global, pkg: &Pkg, given: &Given, told: &mut Telling) {
+fn of_made(alloc: Global, made: Made, given: &Given, told: &mut Telling) {
     match masked_profile(alloc, given) {
-        Ok(profile) => levels(alloc, pkg, &profile, told),
+        Ok(profile) => levels(alloc, &made.pkg, profile, told),
         Err(NoMemory) => told.lack(),
     }
 }
@@ -64,11 +64,11 @@ fn masked_profile(alloc: Global, given: &Given) -> Result<Profile, NoMemory> {
 }
 
 // Asked by the profile, and by its index.
-fn levels(alloc: Global, pkg: &Pkg, profile: &Profile, told: &mut Telling) {
-    let stable = visible(pkg, profile, Level::Stable);
-    let testing = visible(pkg, profile, Level::Testing);
+fn levels(alloc: Global, pkg: &Pkg, profile: Profile, told: &mut Telling) {
+    let stable = visible(pkg, &profile, Level::Stable);
+    let testing = visible(pkg, &profile, Level::Testing);
     told.say(shown_text(stable, testing));
-    match MaskIndex::new(alloc, profile) {
+    match MaskIndex::new(alloc, &profile) {
         Ok(index) => by_index(&index, pkg, stable, testing, told),
         Err(NoMemory) => told.lack(),
     }

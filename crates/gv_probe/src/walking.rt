@@ -164,7 +164,7 @@ fn walked_few<'a, L: Ledger>(
         return told.lack();
     };
     match walk.judge(alloc, asking, steps) {
-        Ok(answers) => tell(alloc, options, &answers, told),
+        Ok(answers) => tell(alloc, options, answers, told),
         Err(stopped) => {
             told.say("stopped behind ");
             told.number(u64::from(stopped.behind));
@@ -173,7 +173,7 @@ fn walked_few<'a, L: Ledger>(
 }
 
 // How many queries and records there are, how many reports are told without a query and how many with one, and these reports.
-fn tell(alloc: Global, options: &Options, answers: &Answers, told: &mut Telling) {
+fn tell(alloc: Global, options: &Options, answers: Answers, told: &mut Telling) {
     add_count(answers.queries, " queries, ", told);
     add_count(answers.certs.count(), " records, ", told);
     told.number(answers.plain.items().len() as u64);
