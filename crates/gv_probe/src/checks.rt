@@ -279,13 +279,26 @@ fn gates<L: Ledger>(
     };
     for name in names.items() {
         if u64::from(name.package) == given.number(2) && class_text(name.class) == given.bytes(3) {
-            return match found(alloc, repo, name, options, steps, told) {
-                Some(found) => digits(found.query.bytes(), told),
-                None => told.say("refused"),
-            };
+            return gates_of(alloc, repo, name, options, steps, told);
         }
     }
     told.say("no query");
+}
+
+fn gates_of<L: Ledger>(
+    alloc: Global,
+    repo: &Repo,
+    name: &QueryName,
+    options: &Options,
+    steps: &mut Steps<L>,
+    told: &mut Telling,
+)
+    requires { HasNamed options.now repo.now name.now }
+{
+    match found(alloc, repo, name, options, steps, told) {
+        Some(found) => digits(found.query.bytes(), told),
+        None => told.say("refused"),
+    }
 }
 
 // Of each record the first query, from 0, that has its gates.
@@ -332,12 +345,27 @@ fn first_place<L: Ledger>(
         return place;
     };
     for name in names.items() {
-        if let Some(found) = found(alloc, repo, name, options, steps, told) {
-            if found.query.bytes() == query {
-                return place;
-            }
+        if has_gates(alloc, repo, name, options, query, steps, told) {
+            return place;
         }
         place = place.saturating_add(1);
     }
     place
+}
+
+fn has_gates<L: Ledger>(
+    alloc: Global,
+    repo: &Repo,
+    name: &QueryName,
+    options: &Options,
+    query: &[u8],
+    steps: &mut Steps<L>,
+    told: &mut Telling,
+) -> bool
+    requires { HasNamed options.now repo.now name.now }
+{
+    match found(alloc, repo, name, options, steps, told) {
+        Some(found) => found.query.bytes() == query,
+        None => false,
+    }
 }

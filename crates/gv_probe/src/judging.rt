@@ -214,8 +214,12 @@ fn is_unknown<L: Ledger>(
 ) -> bool
     requires { HasNamed options.now repo.now name.now }
 {
-    let none = known_one(alloc, repo, name, options, &Known::new(alloc), steps);
-    matches!(&none, Ok(None))
+    let none = Known::new(alloc);
+    is_nothing(known_one(alloc, repo, name, options, &none, steps))
+}
+
+fn is_nothing(found: Result<Option<Found1>, LowerFault>) -> bool {
+    matches!(&found, Ok(None))
 }
 
 // Whether the records alone give as many queries and the same reports.

@@ -37,11 +37,22 @@ fn over(
     repo: Repo,
     told: &mut Telling,
 ) {
+    over_tree(alloc, call, given, outside, &repo, told);
+}
+
+fn over_tree(
+    alloc: Global,
+    call: &str,
+    given: &Given,
+    outside: &Outside,
+    repo: &Repo,
+    told: &mut Telling,
+) {
     let Ok(mut tree) = other_tree(alloc, call, given, outside) else {
         return told.lack();
     };
-    match walk_over(alloc, &mut tree, &repo) {
-        Ok(walk) => tell(alloc, call, given, &repo, walk, told),
+    match walk_over(alloc, &mut tree, repo) {
+        Ok(walk) => tell(alloc, call, given, repo, walk, told),
         Err(found) => fault(&found, told),
     }
 }

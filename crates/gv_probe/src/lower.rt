@@ -4,7 +4,7 @@ ghost use Rattle.gv_entry.specs.Queries.{class_in};
 ghost use Rattle.gv_facts.specs.declared.kinds.Class.TheVariants.{Rdepend};
 
 use crate::given::{Given, cut_at};
-use crate::made::{add_member, bare_profile, member_of, rules};
+use crate::made::{Made, add_member, bare_profile, member_of, rules};
 use crate::written::Telling;
 use gv_base::{Ledger, NoMemory, Steps, Text};
 use gv_entry::{Body, class_in};
@@ -76,13 +76,15 @@ fn parent_lines(alloc: Global, given: &Given) -> Telling {
 fn add_parent(alloc: Global, given: &Given, pkgs: &mut Pkgs) -> Result<Option<Body>, NoMemory> {
     let lines = parent_lines(alloc, given);
     match member_of(alloc, b"app", b"p-1", lines.bytes()?)? {
-        Some(made) => {
-            let body = made.body.copy(alloc)?;
-            pkgs.add(made.pkg)?;
-            Ok(Some(body))
-        }
+        Some(made) => Ok(Some(add_made(alloc, made, pkgs)?)),
         None => Ok(None),
     }
+}
+
+fn add_made(alloc: Global, made: Made, pkgs: &mut Pkgs) -> Result<Body, NoMemory> {
+    let Made { pkg, body } = made;
+    pkgs.add(pkg)?;
+    body.copy(alloc)
 }
 
 fn add_other(alloc: Global, pkgs: &mut Pkgs, name: &[u8], iuse: &[u8]) -> Result<(), NoMemory> {

@@ -11,7 +11,7 @@ use crate::outside::Outside;
 use crate::written::Telling;
 use gv_atom::print_atom;
 use gv_base::{NoMemory, Text, Texts};
-use gv_facts::{Effect, Profile, Rule, Status};
+use gv_facts::{Effect, Pkg, Pkgs, Profile, Rule, Status};
 use gv_load::{Loaded, Repo, load, load_counted};
 use gv_reload::{EntryEdits, Reread, is_entry, reread_entries};
 use std::alloc::Global;
@@ -52,14 +52,22 @@ fn at(
 }
 
 fn package(alloc: Global, repo: &Repo, place: usize, told: &mut Telling) -> Result<(), NoMemory> {
-    match repo.pkgs.copy(alloc)?.items().get(place) {
+    package_in(alloc, repo.pkgs.copy(alloc)?, place, told)
+}
+
+fn package_in(alloc: Global, pkgs: Pkgs, place: usize, told: &mut Telling) -> Result<(), NoMemory> {
+    match pkgs.items().get(place) {
         Some(pkg) => {
             pkg.tell();
-            parts(&pkg.copy(alloc)?, told);
+            tell_parts(pkg.copy(alloc)?, told);
         }
         None => told.say("none"),
     }
     Ok(())
+}
+
+fn tell_parts(pkg: Pkg, told: &mut Telling) {
+    parts(&pkg, told);
 }
 
 fn profile_at(
@@ -128,9 +136,18 @@ fn add_head(profile: &Profile, told: &mut Telling) {
 fn profile(alloc: Global, profile: &Profile, told: &mut Telling) -> Result<(), NoMemory> {
     add_head(profile, told);
     add_lists(alloc, profile, told)?;
+    add_rules(alloc, profile, told)?;
+    add_masks(alloc, profile, told)
+}
+
+fn add_rules(alloc: Global, profile: &Profile, told: &mut Telling) -> Result<(), NoMemory> {
     for rule in profile.rules.items() {
         add_rule(alloc, &rule.copy(alloc)?, told)?;
     }
+    Ok(())
+}
+
+fn add_masks(alloc: Global, profile: &Profile, told: &mut Telling) -> Result<(), NoMemory> {
     for mask in profile.masks.items() {
         told.add(mask.copy(alloc)?.text.bytes());
         told.say("; ");

@@ -20,7 +20,7 @@ pub(crate) fn answer(alloc: Global, call: &str, given: &Given, told: &mut Tellin
         return false;
     }
     match made_of(alloc, given) {
-        Ok(Some(made)) => in_profile(alloc, call, made, given, told),
+        Ok(Some(made)) => of_made(alloc, call, made, given, told),
         Ok(None) => told.say("no package"),
         Err(NoMemory) => told.lack(),
     }
@@ -40,9 +40,13 @@ fn made_of(alloc: Global, given: &Given) -> Result<Option<Made>, NoMemory> {
     member_of(alloc, b"x", b"y-1.2", lines.bytes()?)
 }
 
-fn in_profile(alloc: Global, call: &str, made: Made, given: &Given, told: &mut Telling) {
+fn of_made(alloc: Global, call: &str, made: Made, given: &Given, told: &mut Telling) {
+    in_profile(alloc, call, &made.pkg, given, told);
+}
+
+fn in_profile(alloc: Global, call: &str, pkg: &Pkg, given: &Given, told: &mut Telling) {
     match profile(alloc, given.words(2)) {
-        Ok(profile) => of_pkg(alloc, call, &made.pkg, profile, given, told),
+        Ok(profile) => of_pkg(alloc, call, pkg, profile, given, told),
         Err(NoMemory) => told.lack(),
     }
 }

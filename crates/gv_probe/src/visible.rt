@@ -50,8 +50,12 @@ fn made_of(alloc: Global, given: &Given) -> Result<Option<Made>, NoMemory> {
 }
 
 fn of_made(alloc: Global, made: Made, given: &Given, told: &mut Telling) {
+    of_pkg(alloc, &made.pkg, given, told);
+}
+
+fn of_pkg(alloc: Global, pkg: &Pkg, given: &Given, told: &mut Telling) {
     match masked_profile(alloc, given) {
-        Ok(profile) => levels(alloc, &made.pkg, profile, told),
+        Ok(profile) => in_profile(alloc, pkg, profile, told),
         Err(NoMemory) => told.lack(),
     }
 }
@@ -63,12 +67,16 @@ fn masked_profile(alloc: Global, given: &Given) -> Result<Profile, NoMemory> {
     Ok(profile)
 }
 
+fn in_profile(alloc: Global, pkg: &Pkg, profile: Profile, told: &mut Telling) {
+    levels(alloc, pkg, &profile, told);
+}
+
 // Asked by the profile, and by its index.
-fn levels(alloc: Global, pkg: &Pkg, profile: Profile, told: &mut Telling) {
-    let stable = visible(pkg, &profile, Level::Stable);
-    let testing = visible(pkg, &profile, Level::Testing);
+fn levels(alloc: Global, pkg: &Pkg, profile: &Profile, told: &mut Telling) {
+    let stable = visible(pkg, profile, Level::Stable);
+    let testing = visible(pkg, profile, Level::Testing);
     told.say(shown_text(stable, testing));
-    match MaskIndex::new(alloc, &profile) {
+    match MaskIndex::new(alloc, profile) {
         Ok(index) => by_index(&index, pkg, stable, testing, told),
         Err(NoMemory) => told.lack(),
     }

@@ -163,6 +163,17 @@ fn walked_few<'a, L: Ledger>(
     let Ok(walk) = Walk::few(alloc, repo, options) else {
         return told.lack();
     };
+    judged_by(alloc, options, walk, asking, steps, told);
+}
+
+fn judged_by<L: Ledger>(
+    alloc: Global,
+    options: &Options,
+    walk: Walk<'_>,
+    asking: &Asking<'_>,
+    steps: &mut Steps<L>,
+    told: &mut Telling,
+) {
     match walk.judge(alloc, asking, steps) {
         Ok(answers) => tell(alloc, options, answers, told),
         Err(stopped) => {
