@@ -78,14 +78,8 @@ fn over(alloc: Global, line: &str, outside: &mut Outside, told: &mut Telling) {
 
 fn over_reread(alloc: Global, parts: &str, outside: &Outside, told: &mut Telling) {
     match given_in(alloc, parts) {
-        Ok(given) => told_reread(alloc, &given, outside, told),
+        Ok(given) => reread(alloc, &given, outside, told),
         Err(NoMemory) => told.lack(),
-    }
-}
-
-fn told_reread(alloc: Global, given: &Given, outside: &Outside, told: &mut Telling) {
-    if reread(alloc, given, outside, told).is_err() {
-        told.lack();
     }
 }
 
