@@ -330,31 +330,30 @@ fn refused_for(why: &Telling, told: &mut Telling) {
 }
 
 // What of a query a table is about.
-#[derive(Clone, Copy)]
 enum Part {
     All,
     Item(Lit),
 }
 
 fn both_tables(alloc: Global, allowed: &Query, failing: Query, told: &mut Telling) {
-    table(alloc, allowed, Part::All, told);
+    table(alloc, allowed, &Part::All, told);
     told.add(b" ");
-    table(alloc, &failing, Part::All, told);
+    table(alloc, &failing, &Part::All, told);
     for lit in failing.items.items() {
         told.add(b" ");
-        table(alloc, &failing, Part::Item(*lit), told);
+        table(alloc, &failing, &Part::Item(*lit), told);
     }
 }
 
 // Where the query is on, or one of its literals.
-fn table(alloc: Global, query: &Query, part: Part, told: &mut Telling) {
+fn table(alloc: Global, query: &Query, part: &Part, told: &mut Telling) {
     match on_in(alloc, query, part) {
         Ok(on) => told.formatted(format!(in alloc; "{on:016x}")),
         Err(NoMemory) => told.lack(),
     }
 }
 
-fn on_in(alloc: Global, query: &Query, part: Part) -> Result<u64, NoMemory> {
+fn on_in(alloc: Global, query: &Query, part: &Part) -> Result<u64, NoMemory> {
     let mut on: u64 = 0;
     for assignment in 0..64u32 {
         if is_part_on(alloc, query, assignment, part)? {
@@ -364,9 +363,14 @@ fn on_in(alloc: Global, query: &Query, part: Part) -> Result<u64, NoMemory> {
     Ok(on)
 }
 
-fn is_part_on(alloc: Global, query: &Query, assignment: u32, part: Part) -> Result<bool, NoMemory> {
+fn is_part_on(
+    alloc: Global,
+    query: &Query,
+    assignment: u32,
+    part: &Part,
+) -> Result<bool, NoMemory> {
     let bits = bits_of(alloc, query, assignment)?;
-    match part {
+    match *part {
         Part::Item(lit) => is_item_on(alloc, &query.gates, &bits, lit),
         Part::All => Ok(is_on(alloc, &query.gates, &bits)? == Some(true)),
     }
