@@ -330,6 +330,7 @@ fn refused_for(why: &Telling, told: &mut Telling) {
 }
 
 // What of a query a table is about.
+#[derive(Clone, Copy)]
 enum Part {
     All,
     Item(Lit),
