@@ -8,7 +8,7 @@ use crate::lower::{Case, case_of};
 use crate::written::Telling;
 use gv_base::NoMemory;
 use gv_entry::Body;
-use gv_expr::DepExpr;
+use gv_expr::{DepExpr, UseExpr};
 use gv_facts::{Level, Pkg, Pkgs, Profile, Profiles};
 use gv_lower::{ClassSites, RequiredFlags, add_class_key, add_required_key};
 use gv_usestate::{ProfileStates, RuledFlags};
@@ -91,18 +91,62 @@ fn key_in<'a>(
 ) -> Result<Vec<u8>, NoMemory>
     requires { IsOneOf ruled.now profile.now }
 {
-    let states = ProfileStates::new(alloc, profile)?;
     let mut key = Vec::new(alloc);
-    for pkg in pkgs.items().iter().take(1) {
-        if let Some(required) = &body.required {
-            let flags = RequiredFlags::new(alloc, ruled, pkg, required)?;
-            add_required_key(&flags, &states, Level::Stable, &mut key)?;
-        }
-        if let Some(class) = &body.rdepend {
-            add_class(alloc, pkgs, ruled, &states, profile, pkg, class, &mut key)?;
-        }
+    if let [pkg, ..] = pkgs.items() {
+        add_key(alloc, pkgs, ruled, profile, pkg, body, &mut key)?;
     }
     Ok(key)
+}
+
+fn add_key<'a>(
+    alloc: Global,
+    pkgs: &'a Pkgs,
+    ruled: &'a RuledFlags<'a>,
+    profile: &'a Profile,
+    pkg: &'a Pkg,
+    body: &'a Body,
+    key: &mut Vec<u8>,
+) -> Result<(), NoMemory>
+    requires { IsOneOf ruled.now profile.now }
+{
+    let states = ProfileStates::new(alloc, profile)?;
+    add_both(alloc, pkgs, ruled, &states, profile, pkg, body, key)
+}
+
+fn add_both<'a>(
+    alloc: Global,
+    pkgs: &'a Pkgs,
+    ruled: &'a RuledFlags<'a>,
+    states: &ProfileStates<'_>,
+    profile: &'a Profile,
+    pkg: &'a Pkg,
+    body: &'a Body,
+    key: &mut Vec<u8>,
+) -> Result<(), NoMemory>
+    requires one { IsOneOf ruled.now profile.now }
+    requires states { states.now ≡ profile.now }
+{
+    if let Some(required) = &body.required {
+        add_required(alloc, ruled, states, pkg, required, key)?;
+    }
+    match &body.rdepend {
+        Some(class) => add_class(alloc, pkgs, ruled, states, profile, pkg, class, key),
+        None => Ok(()),
+    }
+}
+
+fn add_required<'a>(
+    alloc: Global,
+    ruled: &'a RuledFlags<'a>,
+    states: &ProfileStates<'_>,
+    pkg: &'a Pkg,
+    required: &'a UseExpr,
+    key: &mut Vec<u8>,
+) -> Result<(), NoMemory>
+    requires { IsOneOf ruled.now states.now }
+{
+    let flags = RequiredFlags::new(alloc, ruled, pkg, required)?;
+    add_required_key(&flags, states, Level::Stable, key)
 }
 
 // Adds the key of a class of the package.

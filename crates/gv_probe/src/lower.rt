@@ -155,9 +155,21 @@ fn over_steps<L: Ledger>(
     requires two { blank.parts ≡ 2 }
 {
     let mut steps = Steps::<L>::open(blank);
+    over_case(alloc, call, given, &case, &mut steps, told);
+}
+
+fn over_case<L: Ledger>(
+    alloc: Global,
+    call: Call,
+    given: &Given,
+    case: &Case,
+    steps: &mut Steps<L>,
+    told: &mut Telling,
+) {
     if call == Call::Tables {
-        tables(alloc, &case, &mut steps, told);
-    } else if let Some(query) = query_of(alloc, call == Call::Allowed, &case, &mut steps, told) {
+        return tables(alloc, case, steps, told);
+    }
+    if let Some(query) = query_of(alloc, call == Call::Allowed, case, steps, told) {
         of_query(alloc, call, query, given, told);
     }
 }

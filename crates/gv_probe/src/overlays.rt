@@ -189,7 +189,17 @@ fn judged<L: Ledger>(
     steps: &mut Steps<L>,
     told: &mut Telling,
 ) {
-    match judge_own(alloc, &over, options, &Known::new(alloc), steps) {
+    judged_own(alloc, &over, options, steps, told);
+}
+
+fn judged_own<L: Ledger>(
+    alloc: Global,
+    over: &Overlay,
+    options: &Options,
+    steps: &mut Steps<L>,
+    told: &mut Telling,
+) {
+    match judge_own(alloc, over, options, &Known::new(alloc), steps) {
         Ok(found) => tell_found(alloc, options, found, told),
         Err(fault) => refused(alloc, &fault, told),
     }

@@ -11,7 +11,7 @@ use crate::outside::Outside;
 use crate::written::Telling;
 use gv_atom::print_atom;
 use gv_base::{MemTree, NoMemory, Text, Texts};
-use gv_facts::{Effect, Pkg, Pkgs, Profile, Rule, Status};
+use gv_facts::{Effect, Pkg, Pkgs, Profile, Profiles, Rule, Status};
 use gv_load::{Loaded, Repo, load, load_counted};
 use gv_reload::{EntryEdits, Reread, is_entry, reread_entries};
 use std::alloc::Global;
@@ -76,11 +76,24 @@ fn profile_at(
     place: usize,
     told: &mut Telling,
 ) -> Result<(), NoMemory> {
-    match repo.profiles.copy(alloc)?.items().get(place) {
-        Some(found) => profile(alloc, &found.copy(alloc)?, told)?,
+    profile_in(alloc, repo.profiles.copy(alloc)?, place, told)
+}
+
+fn profile_in(
+    alloc: Global,
+    profiles: Profiles,
+    place: usize,
+    told: &mut Telling,
+) -> Result<(), NoMemory> {
+    match profiles.items().get(place) {
+        Some(found) => tell_profile(alloc, found.copy(alloc)?, told)?,
         None => told.say("none"),
     }
     Ok(())
+}
+
+fn tell_profile(alloc: Global, found: Profile, told: &mut Telling) -> Result<(), NoMemory> {
+    profile(alloc, &found, told)
 }
 
 /// The words of a variable, where it has some.
