@@ -42,9 +42,9 @@ fn over(alloc: Global, first: Clauses, steps: &[Text], told: &mut Telling) {
         return told.lack();
     };
     for step in steps {
-        if perform(alloc, step.bytes(), &mut clauses, &mut trail, told).is_err() {
+        let Ok(()) = perform(alloc, step.bytes(), &mut clauses, &mut trail, told) else {
             return told.lack();
-        }
+        };
     }
 }
 
