@@ -41,29 +41,26 @@ fn made_of(alloc: Global, given: &Given) -> Result<Option<Made>, NoMemory> {
 }
 
 fn of_made(alloc: Global, call: &str, made: Made, given: &Given, told: &mut Telling) {
-    in_profile(alloc, call, &made.pkg, given, told);
+    of_pkg(alloc, call, &made.pkg, given, told);
 }
 
-fn in_profile(alloc: Global, call: &str, pkg: &Pkg, given: &Given, told: &mut Telling) {
+fn of_pkg(alloc: Global, call: &str, pkg: &Pkg, given: &Given, told: &mut Telling) {
+    match call {
+        "state" => states(alloc, pkg, given, told),
+        "kind" => kinds(alloc, pkg, given, told),
+        _ => flags(alloc, pkg, given, told),
+    }
+}
+
+fn flags(alloc: Global, pkg: &Pkg, given: &Given, told: &mut Telling) {
     match profile(alloc, given.words(2)) {
-        Ok(profile) => of_pkg(alloc, call, pkg, profile, given, told),
+        Ok(profile) => flags_in(alloc, pkg, profile, told),
         Err(NoMemory) => told.lack(),
     }
 }
 
-fn of_pkg(
-    alloc: Global,
-    call: &str,
-    pkg: &Pkg,
-    profile: Profile,
-    given: &Given,
-    told: &mut Telling,
-) {
-    match call {
-        "state" => states(alloc, pkg, profile, given.part(3), told),
-        "kind" => kinds(alloc, pkg, profile, given.bytes(3), told),
-        _ => told.texts(effective(alloc, pkg, &profile), b' '),
-    }
+fn flags_in(alloc: Global, pkg: &Pkg, profile: Profile, told: &mut Telling) {
+    told.texts(effective(alloc, pkg, &profile), b' ');
 }
 
 // Variables and their values.
@@ -128,16 +125,33 @@ fn both(alloc: Global, stable: FlagState, testing: FlagState) -> Telling {
     Telling::of(alloc, &[state_text(stable), b" ", state_text(testing)])
 }
 
+fn add_profile(alloc: Global, lines: &str, profiles: &mut Profiles) -> Result<(), NoMemory> {
+    profiles.add(profile(alloc, lines)?)
+}
+
 // The states of the flag, asked in each way.
-fn states(alloc: Global, pkg: &Pkg, profile: Profile, flag: &Text, told: &mut Telling) {
-    plain_states(alloc, pkg, &profile, flag, told);
+fn states(alloc: Global, pkg: &Pkg, given: &Given, told: &mut Telling) {
     let mut profiles = Profiles::new(alloc);
-    told.done(profiles.add(profile));
+    told.done(add_profile(alloc, given.words(2), &mut profiles));
     if let Some(profile) = first(profiles.items()) {
-        add_kept(alloc, profiles.items(), profile, pkg, flag.bytes(), told);
-        let asked = ProfileStates::of(profile);
-        add_ruled(alloc, profiles.items(), &asked, pkg, flag.bytes(), told);
+        states_in(alloc, profiles.items(), profile, pkg, given.part(3), told);
     }
+}
+
+fn states_in(
+    alloc: Global,
+    profiles: &[Profile],
+    profile: &Profile,
+    pkg: &Pkg,
+    flag: &Text,
+    told: &mut Telling,
+)
+    requires { IsOneOf profiles.now profile.now }
+{
+    plain_states(alloc, pkg, profile, flag, told);
+    add_kept(alloc, profiles, profile, pkg, flag.bytes(), told);
+    let asked = ProfileStates::of(profile);
+    add_ruled(alloc, profiles, &asked, pkg, flag.bytes(), told);
 }
 
 fn plain_states(alloc: Global, pkg: &Pkg, profile: &Profile, flag: &Text, told: &mut Telling) {
@@ -239,18 +253,11 @@ fn state_by_kind(
 }
 
 // What is known of the flag where one profile has no rules and another has these.
-fn kinds(alloc: Global, pkg: &Pkg, other: Profile, flag: &[u8], told: &mut Telling) {
-    match with_plain(alloc, other) {
-        Ok(profiles) => add_kinds(alloc, pkg, profiles.items(), flag, told),
-        Err(NoMemory) => told.lack(),
-    }
-}
-
-fn with_plain(alloc: Global, other: Profile) -> Result<Profiles, NoMemory> {
+fn kinds(alloc: Global, pkg: &Pkg, given: &Given, told: &mut Telling) {
     let mut profiles = Profiles::new(alloc);
-    profiles.add(profile(alloc, "")?)?;
-    profiles.add(other)?;
-    Ok(profiles)
+    told.done(add_profile(alloc, "", &mut profiles));
+    told.done(add_profile(alloc, given.words(2), &mut profiles));
+    add_kinds(alloc, pkg, profiles.items(), given.bytes(3), told);
 }
 
 fn add_kinds(alloc: Global, pkg: &Pkg, profiles: &[Profile], flag: &[u8], told: &mut Telling) {
