@@ -15,27 +15,20 @@ pub(crate) fn all(alloc: Global, text: &str) -> Telling {
     let mut outside = Outside::new(alloc);
     let mut all = Telling::new(alloc);
     for line in text.lines() {
-        if tell(alloc, line, &mut outside, &mut all).is_err() {
-            all.lack();
-        }
+        tell(alloc, line, &mut outside, &mut all);
     }
     all
 }
 
 // Tells the line with the answer that is found, and a line feed behind each of its lines; nothing for a line of an old answer.
-fn tell(
-    alloc: Global,
-    line: &str,
-    outside: &mut Outside,
-    all: &mut Telling,
-) -> Result<(), NoMemory> {
+fn tell(alloc: Global, line: &str, outside: &mut Outside, all: &mut Telling) {
     if is_answer(line) {
-        return Ok(());
+        return;
     }
-    if line.is_empty() || line.starts_with("#") || outside.takes(alloc, line.as_bytes())? {
+    if line.is_empty() || line.starts_with("#") || outside.takes(alloc, line.as_bytes(), all) {
         all.say(line);
         all.add(b"\n");
-        return Ok(());
+        return;
     }
     if is_over(line) {
         return tell_over(alloc, line, outside, all);
@@ -56,115 +49,86 @@ fn is_over(line: &str) -> bool {
         || line.starts_with("run")
 }
 
-fn tell_over(
-    alloc: Global,
-    line: &str,
-    outside: &mut Outside,
-    all: &mut Telling,
-) -> Result<(), NoMemory> {
+fn tell_over(alloc: Global, line: &str, outside: &mut Outside, all: &mut Telling) {
     let mut told = Telling::new(alloc);
-    over(alloc, line, outside, &mut told)?;
+    over(alloc, line, outside, &mut told);
     all.say(line);
     all.add(b"\n");
-    all.say(std::str::from_utf8(told.bytes()?).unwrap_or("no text\n"));
-    Ok(())
+    match told.bytes() {
+        Ok(bytes) => all.say(std::str::from_utf8(bytes).unwrap_or("no text\n")),
+        Err(NoMemory) => all.lack(),
+    }
 }
 
 // The answer to a call over the outside.
-fn over(
-    alloc: Global,
-    line: &str,
-    outside: &mut Outside,
-    told: &mut Telling,
-) -> Result<(), NoMemory> {
+fn over(alloc: Global, line: &str, outside: &mut Outside, told: &mut Telling) {
     if line == "load" {
         return loaded(alloc, outside, told);
     }
     if let Some(parts) = line.strip_prefix("reread ") {
-        return reread(alloc, &given_in(alloc, parts)?, outside, told);
+        return over_reread(alloc, parts, outside, told);
     }
     if let Some(how) = line.strip_prefix("emit") {
         return emitted(alloc, how, outside.reports(), told);
     }
     let words = line.strip_prefix("run").unwrap_or("");
     let words = words.strip_prefix(" ").unwrap_or("");
-    ran(alloc, words.as_bytes(), outside, told)
+    ran(alloc, words, outside, told)
+}
+
+fn over_reread(alloc: Global, parts: &str, outside: &Outside, told: &mut Telling) {
+    match given_in(alloc, parts) {
+        Ok(given) => reread(alloc, &given, outside, told),
+        Err(NoMemory) => told.lack(),
+    }
 }
 
 // Tells a call in one line, with the answer that is found in place of the one that stands there.
-fn tell_answered(
-    alloc: Global,
-    line: &str,
-    outside: &Outside,
-    all: &mut Telling,
-) -> Result<(), NoMemory> {
+fn tell_answered(alloc: Global, line: &str, outside: &Outside, all: &mut Telling) {
     let asked = match line.split_once(" =>") {
         Some((asked, _)) => asked,
         None => line,
     };
     let mut told = Telling::new(alloc);
-    answered(alloc, asked, outside, &mut told)?;
+    answered(alloc, asked, outside, &mut told);
     all.say(asked);
     all.add(b" =>");
-    if !told.is_empty() {
-        all.add(b" ");
-    }
-    all.written(told.bytes()?);
+    add_answer(&told, all);
     all.add(b"\n");
-    Ok(())
 }
 
-fn answered(
-    alloc: Global,
-    asked: &str,
-    outside: &Outside,
-    told: &mut Telling,
-) -> Result<(), NoMemory> {
+fn add_answer(told: &Telling, all: &mut Telling) {
+    match told.bytes() {
+        Ok([]) => {}
+        Ok(bytes) => {
+            all.add(b" ");
+            all.written(bytes);
+        }
+        Err(NoMemory) => all.lack(),
+    }
+}
+
+fn answered(alloc: Global, asked: &str, outside: &Outside, told: &mut Telling) {
     let (call, parts) = asked.split_once(' ').unwrap_or((asked, ""));
-    let given = given_in(alloc, parts)?;
-    if !answer(alloc, call, &given, outside, told)? {
+    match given_in(alloc, parts) {
+        Ok(given) => answer(alloc, call, &given, outside, told),
+        Err(NoMemory) => told.lack(),
+    }
+}
+
+fn answer(alloc: Global, call: &str, given: &Given, outside: &Outside, told: &mut Telling) {
+    let is_call = outside.answer(call, given, told)
+        || repository::answer(alloc, call, given, outside, told)
+        || base::answer(alloc, call, given, told)
+        || version::answer(alloc, call, given, told)
+        || atom::answer(alloc, call, given, told)
+        || expr::answer(alloc, call, given, told)
+        || solving::answer(alloc, call, given, told)
+        || defaults::answer(alloc, call, given, told)
+        || words::answer(alloc, call, given, told)
+        || demo::answer(alloc, call, given, told)
+        || edits::answer(alloc, call, given, told);
+    if !is_call {
         told.say("no such call");
     }
-    Ok(())
-}
-
-// Whether there is such a call, whose answer is told then.
-fn answer(
-    alloc: Global,
-    call: &str,
-    given: &Given,
-    outside: &Outside,
-    told: &mut Telling,
-) -> Result<bool, NoMemory> {
-    if outside.answer(call, given, told) {
-        return Ok(true);
-    }
-    if repository::answer(alloc, call, given, outside, told)? {
-        return Ok(true);
-    }
-    if base::answer(alloc, call, given, told)? {
-        return Ok(true);
-    }
-    if version::answer(alloc, call, given, told)? {
-        return Ok(true);
-    }
-    if atom::answer(alloc, call, given, told)? {
-        return Ok(true);
-    }
-    if expr::answer(alloc, call, given, told)? {
-        return Ok(true);
-    }
-    if solving::answer(alloc, call, given, told)? {
-        return Ok(true);
-    }
-    if defaults::answer(alloc, call, given, told)? {
-        return Ok(true);
-    }
-    if words::answer(alloc, call, given, told)? {
-        return Ok(true);
-    }
-    if demo::answer(alloc, call, given, told)? {
-        return Ok(true);
-    }
-    edits::answer(alloc, call, given, told)
 }

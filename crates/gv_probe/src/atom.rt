@@ -2,54 +2,48 @@
 use crate::given::Given;
 use crate::written::Telling;
 use gv_atom::{Atom, AtomFault, SlotNeed, UseItem, matches, print_atom, read_atom};
-use gv_base::NoMemory;
 use gv_version::{VersionFault, read_version};
 use std::alloc::Global;
 
 /// Tells the answer to a call of this library, if it is one.
-pub(crate) fn answer(
-    alloc: Global,
-    call: &str,
-    given: &Given,
-    told: &mut Telling,
-) -> Result<bool, NoMemory> {
+pub(crate) fn answer(alloc: Global, call: &str, given: &Given, told: &mut Telling) -> bool {
     if !matches!(call, "atom" | "parts" | "matches" | "asks") {
-        return Ok(false);
+        return false;
     }
     match read_atom(alloc, given.bytes(0)) {
-        Ok(atom) => of_atom(alloc, call, &atom, given, told)?,
+        Ok(atom) => of_atom(alloc, call, &atom, given, told),
         Err(found) => fault(alloc, found, told),
     }
-    Ok(true)
+    true
 }
 
-fn of_atom(
-    alloc: Global,
-    call: &str,
-    atom: &Atom,
-    given: &Given,
-    told: &mut Telling,
-) -> Result<(), NoMemory> {
+fn of_atom(alloc: Global, call: &str, atom: &Atom, given: &Given, told: &mut Telling) {
     match call {
-        "atom" => printed(alloc, &atom.copy(alloc)?, told),
-        "parts" => parts(alloc, &atom.copy(alloc)?, told),
         "matches" => is_match(alloc, atom, given, told),
-        _ => asked(alloc, atom, told),
+        "asks" => asked(alloc, atom, told),
+        _ => of_copy(alloc, call, atom, told),
     }
-    Ok(())
+}
+
+fn of_copy(alloc: Global, call: &str, atom: &Atom, told: &mut Telling) {
+    match atom.copy(alloc) {
+        Ok(atom) => fields(alloc, call, &atom, told),
+        Err(_) => told.lack(),
+    }
+}
+
+fn fields(alloc: Global, call: &str, atom: &Atom, told: &mut Telling) {
+    if call == "atom" {
+        told.text(print_atom(alloc, atom));
+    } else {
+        parts(alloc, atom, told);
+    }
 }
 
 fn fault(alloc: Global, fault: AtomFault, told: &mut Telling) {
     match fault {
         AtomFault::Bad { kind, at } => told.formatted(format!(in alloc; "{kind:?} {at}")),
         AtomFault::NoMemory => told.lack(),
-    }
-}
-
-fn printed(alloc: Global, atom: &Atom, told: &mut Telling) {
-    match print_atom(alloc, atom) {
-        Ok(text) => told.add(text.bytes()),
-        Err(NoMemory) => told.lack(),
     }
 }
 

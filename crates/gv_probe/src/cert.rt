@@ -7,7 +7,7 @@ ghost use Rattle.std.specs.List.{AllByRecursion};
 ghost use Rattle.gv_cert.specs.Claim.{log_of};
 ghost use Rattle.gv_cert.specs.Numbers.{AllFrom};
 
-use crate::given::Given;
+use crate::given::{Given, cut_at};
 use crate::logic::{bits_in, bytes_in, digits_of, told_bits, u32_in};
 use crate::refute::{steps_in, tell_log};
 use crate::written::Telling;
@@ -31,50 +31,82 @@ pub(crate) fn known_in(alloc: Global, parts: &[Text]) -> Result<Known, NoMemory>
 }
 
 fn add_record(alloc: Global, part: &[u8], known: &mut Known) -> Result<(), NoMemory> {
-    let mut sides = part.split(|b| *b == b'=');
-    let query = bytes_in(alloc, sides.next().unwrap_or(&[]))?;
-    let answer = bytes_in(alloc, sides.next().unwrap_or(&[]))?;
+    let (query, answer) = cut_at(part, b'=');
+    let query = bytes_in(alloc, query)?;
+    let answer = bytes_in(alloc, answer)?;
     known.insert(&query, &answer)?;
     Ok(())
 }
 
-/// Tells the records of a file.
-pub(crate) fn read_certs(alloc: Global, given: &Given, told: &mut Telling) -> Result<(), NoMemory> {
+/// Tells the answer to a call of this library, if it is one.
+pub(crate) fn answer(alloc: Global, call: &str, given: &Given, told: &mut Telling) -> bool {
+    match call {
+        "read-certs" => read_certs(alloc, given, told),
+        "write-certs" => write_certs(alloc, given, told),
+        "find" => found(alloc, given, told),
+        "read-answer" => read(alloc, given, told),
+        "write-answer" => write(alloc, given, told),
+        _ => return false,
+    }
+    true
+}
+
+// The records of a file.
+fn read_certs(alloc: Global, given: &Given, told: &mut Telling) {
     file_law();
     migration_law();
-    let known = read_known(alloc, bytes_in(alloc, given.bytes(0))?.bytes())?;
+    match known_of(alloc, given.bytes(0)) {
+        Ok(known) => tell_known(alloc, &known, told),
+        Err(NoMemory) => told.lack(),
+    }
+}
+
+fn known_of(alloc: Global, digits: &[u8]) -> Result<Known, NoMemory> {
+    read_known(alloc, bytes_in(alloc, digits)?.bytes())
+}
+
+fn tell_known(alloc: Global, known: &Known, told: &mut Telling) {
     told.number(u64::from(known.count()));
     for number in 0..known.count() {
         told.add(b" ");
-        digits_of(alloc, known.query(number), told)?;
+        digits_of(alloc, known.query(number), told);
         told.add(b"=");
-        digits_of(alloc, known.answer(number), told)?;
+        digits_of(alloc, known.answer(number), told);
     }
-    Ok(())
 }
 
-/// Tells the file of records, its header as it is.
-pub(crate) fn write_certs(
-    alloc: Global,
-    given: &Given,
-    told: &mut Telling,
-) -> Result<(), NoMemory> {
-    let file = write_known(alloc, &known_in(alloc, given.from(0))?)?;
-    let (header, rest) = file.bytes().split_at(file.bytes().len().min(9));
+// The file of records, its header as it is.
+fn write_certs(alloc: Global, given: &Given, told: &mut Telling) {
+    match file_of(alloc, given.from(0)) {
+        Ok(file) => tell_file(alloc, file.bytes(), told),
+        Err(NoMemory) => told.lack(),
+    }
+}
+
+fn file_of(alloc: Global, parts: &[Text]) -> Result<Text, NoMemory> {
+    write_known(alloc, &known_in(alloc, parts)?)
+}
+
+fn tell_file(alloc: Global, file: &[u8], told: &mut Telling) {
+    let (header, rest) = file.split_at(file.len().min(9));
     told.add(header);
     told.add(b" ");
-    digits_of(alloc, rest, told)
+    digits_of(alloc, rest, told);
 }
 
-/// Tells the number of the first record of a query from a number on.
-pub(crate) fn found(alloc: Global, given: &Given, told: &mut Telling) -> Result<(), NoMemory> {
+// The number of the first record of a query from a number on.
+fn found(alloc: Global, given: &Given, told: &mut Telling) {
+    match number_of(alloc, given) {
+        Ok(Some(number)) => told.number(u64::from(number)),
+        Ok(None) => told.say("none"),
+        Err(NoMemory) => told.lack(),
+    }
+}
+
+fn number_of(alloc: Global, given: &Given) -> Result<Option<u32>, NoMemory> {
     let known = known_in(alloc, given.from(2))?;
     let query = bytes_in(alloc, given.bytes(1))?;
-    match known.find(query.bytes(), u32_in(given.bytes(0))) {
-        Some(number) => told.number(u64::from(number)),
-        None => told.say("none"),
-    }
-    Ok(())
+    Ok(known.find(query.bytes(), u32_in(given.bytes(0))))
 }
 
 /// Tells what is claimed.
@@ -92,27 +124,34 @@ pub(crate) fn told_claim(claim: &Claim, told: &mut Telling) {
     }
 }
 
-/// Tells what bytes claim about gates with so many inputs and clauses.
-pub(crate) fn read(alloc: Global, given: &Given, told: &mut Telling) -> Result<(), NoMemory> {
-    answer_law();
-    short_law();
-    let inputs = u32_in(given.bytes(0));
-    let clauses = u32_in(given.bytes(1));
-    let bytes = bytes_in(alloc, given.bytes(2))?;
-    match read_answer(alloc, inputs, clauses, bytes.bytes())? {
-        Some(claim) => told_claim(&claim, told),
-        None => told.say("none"),
+// What bytes claim about gates with so many inputs and clauses.
+fn read(alloc: Global, given: &Given, told: &mut Telling) {
+    match claim_of(alloc, given) {
+        Ok(Some(claim)) => told_claim(&claim, told),
+        Ok(None) => told.say("none"),
+        Err(NoMemory) => told.lack(),
     }
-    Ok(())
 }
 
-/// Tells the bytes of what is claimed about gates with so many clauses.
-pub(crate) fn write(alloc: Global, given: &Given, told: &mut Telling) -> Result<(), NoMemory> {
-    match claim_in(alloc, given.bytes(1))? {
-        Some(claim) => written(alloc, u32_in(given.bytes(0)), &claim, told)?,
-        None => told.say("no claim"),
+fn claim_of(alloc: Global, given: &Given) -> Result<Option<Claim>, NoMemory> {
+    answer_law();
+    short_law();
+    let bytes = bytes_in(alloc, given.bytes(2))?;
+    read_answer(
+        alloc,
+        u32_in(given.bytes(0)),
+        u32_in(given.bytes(1)),
+        bytes.bytes(),
+    )
+}
+
+// The bytes of what is claimed about gates with so many clauses.
+fn write(alloc: Global, given: &Given, told: &mut Telling) {
+    match claim_in(alloc, given.bytes(1)) {
+        Ok(Some(claim)) => written(alloc, u32_in(given.bytes(0)), &claim, told),
+        Ok(None) => told.say("no claim"),
+        Err(NoMemory) => told.lack(),
     }
-    Ok(())
 }
 
 fn claim_in(alloc: Global, text: &[u8]) -> Result<Option<Claim>, NoMemory> {
@@ -131,12 +170,14 @@ fn claim_in(alloc: Global, text: &[u8]) -> Result<Option<Claim>, NoMemory> {
     }
 }
 
-fn written(alloc: Global, clauses: u32, claim: &Claim, told: &mut Telling) -> Result<(), NoMemory> {
+fn written(alloc: Global, clauses: u32, claim: &Claim, told: &mut Telling) {
     if !are_named(u64::from(clauses), log(claim).items()) {
-        told.say("no such hint");
-        return Ok(());
+        return told.say("no such hint");
     }
-    digits_of(alloc, write_answer(alloc, clauses, claim)?.bytes(), told)
+    match write_answer(alloc, clauses, claim) {
+        Ok(bytes) => digits_of(alloc, bytes.bytes(), told),
+        Err(NoMemory) => told.lack(),
+    }
 }
 
 fn log(claim: &Claim) -> &Log

@@ -5,6 +5,7 @@ ghost use Rattle.gv_checks.specs.Named.{HasNamed};
 use crate::entry::digits;
 use crate::given::Given;
 use crate::judging::{answered, judged};
+use crate::loading::repo_of;
 use crate::made::words;
 use crate::outside::Outside;
 use crate::reports::printed;
@@ -12,10 +13,12 @@ use crate::walking::walked;
 use crate::written::Telling;
 use gv_base::{Ledger, NoMemory, Steps};
 use gv_cert::{Known, read_known};
-use gv_checks::{Found1, JudgeFault, QueryName, ask_one, judge, plain, plain_one, queries};
+use gv_checks::{
+    Found1, JudgeFault, Judged, QueryName, QueryNames, ask_one, judge, plain, plain_one, queries,
+};
 use gv_facts::{Level, class_text};
-use gv_load::{Repo, load};
-use gv_report::Options;
+use gv_load::Repo;
+use gv_report::{Options, Reports};
 use gv_words::default_options;
 use std::alloc::Global;
 use std::marker::Brand;
@@ -29,16 +32,14 @@ pub(crate) fn answer(
     given: &Given,
     outside: &Outside,
     told: &mut Telling,
-) -> Result<bool, NoMemory> {
+) -> bool {
     let Some(call) = call_of(call) else {
-        return Ok(false);
+        return false;
     };
-    let mut tree = outside.tree(alloc)?;
-    match load(alloc, &mut tree) {
-        Ok(repo) => of_repo(alloc, call, given, outside, &repo, told)?,
-        Err(_) => told.say("no repository"),
+    if let Some(repo) = repo_of(alloc, outside, told) {
+        of_repo(alloc, call, given, outside, repo, told);
     }
-    Ok(true)
+    true
 }
 
 fn of_repo(
@@ -46,12 +47,13 @@ fn of_repo(
     call: Call,
     given: &Given,
     outside: &Outside,
-    repo: &Repo,
+    repo: Repo,
     told: &mut Telling,
-) -> Result<(), NoMemory> {
-    let certs = outside.store.get(given.bytes(0)).unwrap_or(&[]);
-    let certs = read_known(alloc, certs)?;
-    over::<Brand>(alloc, Blank::new(2), call, given, repo, &certs, told)
+) {
+    match read_known(alloc, outside.kept_at(given.bytes(0))) {
+        Ok(certs) => over::<Brand>(alloc, Blank::new(2), call, given, &repo, certs, told),
+        Err(NoMemory) => told.lack(),
+    }
 }
 
 #[derive(Clone, Copy)]
@@ -88,16 +90,25 @@ fn over<L: Ledger>(
     call: Call,
     given: &Given,
     repo: &Repo,
-    certs: &Known,
+    certs: Known,
     told: &mut Telling,
-) -> Result<(), NoMemory>
+)
     requires name { blank.name ≡ L.name }
     requires parts { blank.parts ≡ L.parts }
     requires two { blank.parts ≡ 2 }
 {
     let mut steps = Steps::<L>::open(blank);
-    let options = options(alloc, given)?;
-    by_call(alloc, call, given, repo, certs, &options, &mut steps, told)
+    match options_for(alloc, call, given) {
+        Ok(options) => by_call(alloc, call, given, repo, &certs, options, &mut steps, told),
+        Err(NoMemory) => told.lack(),
+    }
+}
+
+fn options_for(alloc: Global, call: Call, given: &Given) -> Result<Options, NoMemory> {
+    match call {
+        Call::Answered => default_options(alloc),
+        _ => options(alloc, given),
+    }
 }
 
 fn by_call<L: Ledger>(
@@ -106,23 +117,37 @@ fn by_call<L: Ledger>(
     given: &Given,
     repo: &Repo,
     certs: &Known,
-    options: &Options,
+    options: Options,
     steps: &mut Steps<L>,
     told: &mut Telling,
-) -> Result<(), NoMemory> {
+) {
     match call {
-        Call::Judge => judged(alloc, repo, options, steps, told),
-        Call::Ask => asked(alloc, repo, options, steps, told),
-        Call::Gates => gates(alloc, repo, options, given, steps, told),
-        Call::Records => records(alloc, repo, options, steps, told),
-        Call::Answered => answered(alloc, repo, &default_options(alloc)?, certs, steps, told),
-        Call::Walk => walked(alloc, repo, options, given, steps, told),
-        Call::PlainReports => printed(alloc, options, &plain(alloc, repo, options)?, told),
-        Call::PlainOne => {
-            let reports = plain_one(alloc, repo, given.small_number(2), options)?;
-            printed(alloc, options, &reports, told)
-        }
-        Call::Queries => names(alloc, repo, options, told),
+        Call::Judge => judged(alloc, repo, &options, steps, told),
+        Call::Ask => asked(alloc, repo, &options, steps, told),
+        Call::Gates => gates(alloc, repo, &options, given, steps, told),
+        Call::Records => records(alloc, repo, &options, steps, told),
+        Call::Answered => answered(alloc, repo, &options, certs, steps, told),
+        Call::Walk => walked(alloc, repo, &options, given, steps, told),
+        Call::PlainReports => told_plain(alloc, plain(alloc, repo, &options), &options, told),
+        Call::PlainOne => one_plain(alloc, repo, given, &options, told),
+        Call::Queries => names(alloc, repo, &options, told),
+    }
+}
+
+fn one_plain(alloc: Global, repo: &Repo, given: &Given, options: &Options, told: &mut Telling) {
+    let reports = plain_one(alloc, repo, given.small_number(2), options);
+    told_plain(alloc, reports, options, told);
+}
+
+fn told_plain(
+    alloc: Global,
+    reports: Result<Reports, NoMemory>,
+    options: &Options,
+    told: &mut Telling,
+) {
+    match reports {
+        Ok(reports) => printed(alloc, options, &reports, told),
+        Err(NoMemory) => told.lack(),
     }
 }
 
@@ -143,27 +168,34 @@ pub(crate) fn options(alloc: Global, given: &Given) -> Result<Options, NoMemory>
     })
 }
 
-// The queries in order: the place of the package, the class, the line of the profile and the level.
-fn names(
-    alloc: Global,
-    repo: &Repo,
-    options: &Options,
-    told: &mut Telling,
-) -> Result<(), NoMemory> {
-    for name in queries(alloc, repo, options)?.copy(alloc)?.items() {
-        add_name(alloc, name, told)?;
+// The queries in order, each as its name is told.
+fn names(alloc: Global, repo: &Repo, options: &Options, told: &mut Telling) {
+    match names_of(alloc, repo, options) {
+        Ok(names) => add_names(alloc, names.items(), told),
+        Err(NoMemory) => told.lack(),
+    }
+}
+
+fn names_of(alloc: Global, repo: &Repo, options: &Options) -> Result<QueryNames, NoMemory> {
+    queries(alloc, repo, options)?.copy(alloc)
+}
+
+fn add_names(alloc: Global, names: &[QueryName], told: &mut Telling) {
+    for name in names {
+        add_name(alloc, name, told);
         told.say("; ");
     }
-    Ok(())
 }
 
 /// The place of the package, the class, the line of the profile and the level.
-pub(crate) fn add_name(
-    alloc: Global,
-    name: &QueryName,
-    told: &mut Telling,
-) -> Result<(), NoMemory> {
-    let name = name.copy(alloc)?;
+pub(crate) fn add_name(alloc: Global, name: &QueryName, told: &mut Telling) {
+    match name.copy(alloc) {
+        Ok(name) => add_fields(name, told),
+        Err(NoMemory) => told.lack(),
+    }
+}
+
+fn add_fields(name: QueryName, told: &mut Telling) {
     told.number(u64::from(name.package));
     told.add(b" ");
     told.add(class_text(name.class));
@@ -173,7 +205,6 @@ pub(crate) fn add_name(
         Level::Stable => " stable",
         Level::Testing => " testing",
     });
-    Ok(())
 }
 
 // The answer to one query, if there is one.
@@ -183,14 +214,26 @@ fn found<L: Ledger>(
     name: &QueryName,
     options: &Options,
     steps: &mut Steps<L>,
-) -> Result<Option<Found1>, NoMemory>
+    told: &mut Telling,
+) -> Option<Found1>
     requires { HasNamed options.now repo.now name.now }
 {
     match ask_one(alloc, repo, name, options, &Known::new(alloc), steps) {
-        Ok(found) => Ok(Some(found.copy(alloc)?)),
-        Err(JudgeFault::NoMemory) => Err(NoMemory),
-        Err(_) => Ok(None),
+        Ok(found) => copied(alloc, found, told),
+        Err(JudgeFault::NoMemory) => {
+            told.lack();
+            None
+        }
+        Err(_) => None,
     }
+}
+
+fn copied(alloc: Global, found: Found1, told: &mut Telling) -> Option<Found1> {
+    let copy = found.copy(alloc).ok();
+    if copy.is_none() {
+        told.lack();
+    }
+    copy
 }
 
 // Of each query its assignment, and whether it is reported.
@@ -200,17 +243,19 @@ fn asked<L: Ledger>(
     options: &Options,
     steps: &mut Steps<L>,
     told: &mut Telling,
-) -> Result<(), NoMemory> {
-    for name in queries(alloc, repo, options)?.items() {
-        if let Some(found) = found(alloc, repo, name, options, steps)? {
-            add_found(&found, told);
+) {
+    let Ok(names) = queries(alloc, repo, options) else {
+        return told.lack();
+    };
+    for name in names.items() {
+        if let Some(found) = found(alloc, repo, name, options, steps, told) {
+            add_found(found, told);
         }
         told.say("; ");
     }
-    Ok(())
 }
 
-fn add_found(found: &Found1, told: &mut Telling) {
+fn add_found(found: Found1, told: &mut Telling) {
     match &found.witness {
         Some(witness) => told.add(witness.bytes()),
         None => told.say("none"),
@@ -228,19 +273,32 @@ fn gates<L: Ledger>(
     given: &Given,
     steps: &mut Steps<L>,
     told: &mut Telling,
-) -> Result<(), NoMemory> {
-    let package = given.number(2);
-    for name in queries(alloc, repo, options)?.items() {
-        if u64::from(name.package) == package && class_text(name.class) == given.bytes(3) {
-            match found(alloc, repo, name, options, steps)? {
-                Some(found) => digits(found.query.bytes(), told),
-                None => told.say("refused"),
-            }
-            return Ok(());
+) {
+    let Ok(names) = queries(alloc, repo, options) else {
+        return told.lack();
+    };
+    for name in names.items() {
+        if u64::from(name.package) == given.number(2) && class_text(name.class) == given.bytes(3) {
+            return gates_of(alloc, repo, name, options, steps, told);
         }
     }
     told.say("no query");
-    Ok(())
+}
+
+fn gates_of<L: Ledger>(
+    alloc: Global,
+    repo: &Repo,
+    name: &QueryName,
+    options: &Options,
+    steps: &mut Steps<L>,
+    told: &mut Telling,
+)
+    requires { HasNamed options.now repo.now name.now }
+{
+    match found(alloc, repo, name, options, steps, told) {
+        Some(found) => digits(found.query.bytes(), told),
+        None => told.say("refused"),
+    }
 }
 
 // Of each record the first query, from 0, that has its gates.
@@ -250,13 +308,10 @@ fn records<L: Ledger>(
     options: &Options,
     steps: &mut Steps<L>,
     told: &mut Telling,
-) -> Result<(), NoMemory> {
+) {
     match judge(alloc, repo, options, &Known::new(alloc), steps) {
-        Ok(judged) => places(alloc, repo, options, &judged.certs, steps, told),
-        Err(_) => {
-            told.say("refused");
-            Ok(())
-        }
+        Ok(judged) => places(alloc, repo, options, judged, steps, told),
+        Err(_) => told.say("refused"),
     }
 }
 
@@ -264,16 +319,16 @@ fn places<L: Ledger>(
     alloc: Global,
     repo: &Repo,
     options: &Options,
-    certs: &Known,
+    judged: Judged,
     steps: &mut Steps<L>,
     told: &mut Telling,
-) -> Result<(), NoMemory> {
+) {
+    let certs = &judged.certs;
     for number in 0..certs.count() {
-        let place = first_place(alloc, repo, options, certs.query(number), steps)?;
+        let place = first_place(alloc, repo, options, certs.query(number), steps, told);
         told.number(u64::from(place));
         told.add(b" ");
     }
-    Ok(())
 }
 
 fn first_place<L: Ledger>(
@@ -282,15 +337,35 @@ fn first_place<L: Ledger>(
     options: &Options,
     query: &[u8],
     steps: &mut Steps<L>,
-) -> Result<u32, NoMemory> {
+    told: &mut Telling,
+) -> u32 {
     let mut place: u32 = 0;
-    for name in queries(alloc, repo, options)?.items() {
-        if let Some(found) = found(alloc, repo, name, options, steps)? {
-            if found.query.bytes() == query {
-                return Ok(place);
-            }
+    let Ok(names) = queries(alloc, repo, options) else {
+        told.lack();
+        return place;
+    };
+    for name in names.items() {
+        if has_gates(alloc, repo, name, options, query, steps, told) {
+            return place;
         }
         place = place.saturating_add(1);
     }
-    Ok(place)
+    place
+}
+
+fn has_gates<L: Ledger>(
+    alloc: Global,
+    repo: &Repo,
+    name: &QueryName,
+    options: &Options,
+    query: &[u8],
+    steps: &mut Steps<L>,
+    told: &mut Telling,
+) -> bool
+    requires { HasNamed options.now repo.now name.now }
+{
+    match found(alloc, repo, name, options, steps, told) {
+        Some(found) => found.query.bytes() == query,
+        None => false,
+    }
 }

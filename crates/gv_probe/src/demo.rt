@@ -1,41 +1,42 @@
 //! Calls of `gv_demo`.
 use crate::given::Given;
 use crate::written::Telling;
-use gv_base::{Files, NoMemory};
+use gv_base::Files;
 use gv_demo::demo_files;
 use std::alloc::Global;
 
 /// Tells the answer to a call of this library, if it is one.
-pub(crate) fn answer(
-    alloc: Global,
-    call: &str,
-    given: &Given,
-    told: &mut Telling,
-) -> Result<bool, NoMemory> {
+pub(crate) fn answer(alloc: Global, call: &str, given: &Given, told: &mut Telling) -> bool {
     if !matches!(call, "demo" | "demo-sum") {
-        return Ok(false);
+        return false;
     }
-    let files = demo_files(alloc, given.number(0))?;
+    match demo_files(alloc, given.number(0)) {
+        Ok(files) => of_files(alloc, call, &files, given.bytes(1), told),
+        Err(_) => told.lack(),
+    }
+    true
+}
+
+fn of_files(alloc: Global, call: &str, files: &Files, path: &[u8], told: &mut Telling) {
     if call == "demo-sum" {
-        sum(alloc, &files, told)?;
-        return Ok(true);
+        return sum(alloc, files, told);
     }
-    match files.get(given.bytes(1)) {
+    match files.get(path) {
         Some(bytes) => told.add(bytes),
         None => told.say("none"),
     }
-    Ok(true)
 }
 
 // The checksum of the entries of all packages in order: 31 times what was, and the byte.
-fn sum(alloc: Global, files: &Files, told: &mut Telling) -> Result<(), NoMemory> {
+fn sum(alloc: Global, files: &Files, told: &mut Telling) {
     let mut sum: u64 = 0;
     for number in 0..1000u32 {
-        let path = format!(in alloc; "metadata/md5-cache/x/p{number:03}-1")?;
-        sum = sum_with(sum, files.get(path.as_bytes()).unwrap_or(&[]));
+        match format!(in alloc; "metadata/md5-cache/x/p{number:03}-1") {
+            Ok(path) => sum = sum_with(sum, files.get(path.as_bytes()).unwrap_or(&[])),
+            Err(_) => told.lack(),
+        }
     }
     told.number(sum);
-    Ok(())
 }
 
 fn sum_with(before: u64, bytes: &[u8]) -> u64 {

@@ -1,50 +1,42 @@
 //! Calls of `gv_edits`.
+use crate::base::source_of;
 use crate::disk::Disk;
 use crate::given::Given;
 use crate::written::Telling;
-use gv_base::{Calls, Found, MemSource, NoMemory, Text, Tree};
+use gv_base::{Found, MemSource, NoMemory, Text, Tree};
 use gv_edits::{Command, EditFault, EditedTree, Edits, ScriptFault, ScriptReader};
 use std::alloc::Global;
 
 /// Tells the answer to a call of this library, if it is one.
-pub(crate) fn answer(
-    alloc: Global,
-    call: &str,
-    given: &Given,
-    told: &mut Telling,
-) -> Result<bool, NoMemory> {
+pub(crate) fn answer(alloc: Global, call: &str, given: &Given, told: &mut Telling) -> bool {
     match call {
-        "script" => script(alloc, given, true, told)?,
-        "script-end" => script(alloc, given, false, told)?,
-        "edited" => edited(alloc, given, told)?,
-        _ => return Ok(false),
+        "script" => script(alloc, given, true, told),
+        "script-end" => script(alloc, given, false, told),
+        "edited" => edited(alloc, given, told),
+        _ => return false,
     }
-    Ok(true)
-}
-
-fn source_of(alloc: Global, given: &Given) -> Result<MemSource, NoMemory> {
-    let most = given.number(0).clamp(1, 1_000_000) as u32;
-    let mut calls = Calls::new(alloc);
-    calls.add(given.small_number(1))?;
-    Ok(MemSource::new(given.part(2).copy(alloc)?, most, calls))
+    true
 }
 
 // The commands of a script in pieces of so many bytes, of which the call with a number fails, and how it ends; or the end
 // alone, and the number of what was read.
-fn script(
-    alloc: Global,
-    given: &Given,
-    is_whole: bool,
-    told: &mut Telling,
-) -> Result<(), NoMemory> {
-    let mut source = source_of(alloc, given)?;
-    let mut reader = ScriptReader::new(alloc)?;
+fn script(alloc: Global, given: &Given, is_whole: bool, told: &mut Telling) {
+    match source_of(alloc, given) {
+        Ok(source) => commands(alloc, source, is_whole, told),
+        Err(NoMemory) => told.lack(),
+    }
+}
+
+fn commands(alloc: Global, source: MemSource, is_whole: bool, told: &mut Telling) {
+    let Ok(mut reader) = ScriptReader::new(alloc) else {
+        return told.lack();
+    };
+    let mut source = source;
     for n in 0..1_000_001u32 {
         if tell_next(alloc, &mut source, &mut reader, n, is_whole, told) {
-            return Ok(());
+            return;
         }
     }
-    Ok(())
 }
 
 // Tells the next command, and answers whether it is the last.
@@ -90,37 +82,20 @@ fn command(alloc: Global, answer: &Result<Command, ScriptFault>, told: &mut Tell
 
 // Each part is a path: behind `@` of a file below the edits, behind `/` of an empty folder, behind `+` of what is put, behind
 // `-` of what is cut; and alone one at which is told what is seen.
-fn edited(alloc: Global, given: &Given, told: &mut Telling) -> Result<(), NoMemory> {
+fn edited(alloc: Global, given: &Given, told: &mut Telling) {
     let mut disk = Disk::new(alloc);
     let mut edits = Edits::new(alloc);
     for step in given.from(0) {
-        perform(alloc, step.bytes(), &mut disk, &mut edits, told)?;
+        perform(alloc, step.bytes(), &mut disk, &mut edits, told);
     }
-    Ok(())
 }
 
-fn perform(
-    alloc: Global,
-    step: &[u8],
-    disk: &mut Disk,
-    edits: &mut Edits,
-    told: &mut Telling,
-) -> Result<(), NoMemory> {
-    let (mark, path) = match step.split_first() {
-        Some((mark, path)) => (*mark, path),
-        None => (0, step),
-    };
-    match mark {
-        b'@' => disk.files.put(path, b"old"),
-        b'/' => disk.folders.put(path, b""),
-        b'+' => {
-            fault(alloc, edits.put(path, b"new"), told);
-            Ok(())
-        }
-        b'-' => {
-            fault(alloc, edits.cut(path), told);
-            Ok(())
-        }
+fn perform(alloc: Global, step: &[u8], disk: &mut Disk, edits: &mut Edits, told: &mut Telling) {
+    match step.split_first() {
+        Some((b'@', path)) => told.done(disk.files.put(path, b"old")),
+        Some((b'/', path)) => told.done(disk.folders.put(path, b"")),
+        Some((b'+', path)) => fault(alloc, edits.put(path, b"new"), told),
+        Some((b'-', path)) => fault(alloc, edits.cut(path), told),
         _ => seen(alloc, step, disk, edits, told),
     }
 }
@@ -132,20 +107,15 @@ fn fault(alloc: Global, done: Result<(), EditFault>, told: &mut Telling) {
     }
 }
 
-fn seen(
-    alloc: Global,
-    path: &[u8],
-    disk: &mut Disk,
-    edits: &mut Edits,
-    told: &mut Telling,
-) -> Result<(), NoMemory> {
-    let path = Text::of(alloc, path)?;
+fn seen(alloc: Global, path: &[u8], disk: &mut Disk, edits: &mut Edits, told: &mut Telling) {
+    let Ok(path) = Text::of(alloc, path) else {
+        return told.lack();
+    };
     let mut tree = EditedTree { tree: disk, edits };
     read(alloc, &mut tree, &path, told);
     told.add(b" ");
     listed(alloc, &mut tree, &path, told);
     told.add(b",");
-    Ok(())
 }
 
 // The bytes of a file, `/` for a folder, `-` for nothing.

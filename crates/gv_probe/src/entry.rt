@@ -8,27 +8,25 @@ use gv_facts::{Class, Pkg};
 use std::alloc::Global;
 
 /// Tells the answer to a call of this library, if it is one.
-pub(crate) fn answer(
-    alloc: Global,
-    call: &str,
-    given: &Given,
-    told: &mut Telling,
-) -> Result<bool, NoMemory> {
+pub(crate) fn answer(alloc: Global, call: &str, given: &Given, told: &mut Telling) -> bool {
     let Some(what) = call.strip_prefix("entry-") else {
-        return Ok(is_digest(call, given, told));
+        return is_digest(call, given, told);
     };
-    let read = match what {
-        "package" => entry(alloc, b"app", given.bytes(0), given.bytes(1))?,
-        "digest" => entry_with(alloc, b"_md5_=", given)?,
-        "eclasses" => entry_with(alloc, b"_eclasses_=", given)?,
-        "errors" | "classes" | "flags" => entry(alloc, b"app", b"q-1", given.bytes(0))?,
-        _ => return Ok(false),
-    };
-    match &read {
-        Some(entry) => of_entry(what, entry, told),
-        None => told.say("no PF"),
+    match read(alloc, what, given) {
+        Ok(Some(entry)) => of_entry(what, entry, told),
+        Ok(None) => told.say("no PF"),
+        Err(NoMemory) => told.lack(),
     }
-    Ok(true)
+    true
+}
+
+fn read(alloc: Global, what: &str, given: &Given) -> Result<Option<Entry>, NoMemory> {
+    match what {
+        "package" => entry(alloc, b"app", given.bytes(0), given.bytes(1)),
+        "digest" => entry_with(alloc, b"_md5_=", given),
+        "eclasses" => entry_with(alloc, b"_eclasses_=", given),
+        _ => entry(alloc, b"app", b"q-1", given.bytes(0)),
+    }
 }
 
 fn is_digest(call: &str, given: &Given, told: &mut Telling) -> bool {
@@ -39,22 +37,21 @@ fn is_digest(call: &str, given: &Given, told: &mut Telling) -> bool {
     true
 }
 
-fn of_entry(what: &str, entry: &Entry, told: &mut Telling) {
+fn of_entry(what: &str, entry: Entry, told: &mut Telling) {
     match what {
-        "package" => package(entry, told),
-        "digest" => digest(entry, told),
-        "eclasses" => eclasses(entry, told),
-        "errors" => errors(entry, told),
-        "flags" => flags(entry, told),
-        _ => classes(entry, told),
+        "package" => package(&entry, told),
+        "digest" => digest(&entry, told),
+        "eclasses" => eclasses(&entry, told),
+        "errors" => errors(&entry, told),
+        "flags" => flags(&entry, told),
+        "classes" => classes(&entry, told),
+        _ => told.say("no such call"),
     }
 }
 
 // The entry of one key and its value.
 fn entry_with(alloc: Global, key: &[u8], given: &Given) -> Result<Option<Entry>, NoMemory> {
-    let mut line = Telling::new(alloc);
-    line.add(key);
-    line.add(given.bytes(0));
+    let line = Telling::of(alloc, &[key, given.bytes(0)]);
     entry(alloc, b"app", b"q-1", line.bytes()?)
 }
 

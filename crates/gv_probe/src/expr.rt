@@ -1,7 +1,7 @@
 //! Calls of `gv_expr`.
 use crate::given::Given;
 use crate::written::Telling;
-use gv_base::NoMemory;
+use gv_base::{NoMemory, Text};
 use gv_expr::{
     DepExpr, DepTree, ExprFault, UseExpr, UseTree, mentioned_dep, mentioned_required, print_dep,
     print_item, print_required, read_dep, read_required,
@@ -9,20 +9,15 @@ use gv_expr::{
 use std::alloc::Global;
 
 /// Tells the answer to a call of this library, if it is one.
-pub(crate) fn answer(
-    alloc: Global,
-    call: &str,
-    given: &Given,
-    told: &mut Telling,
-) -> Result<bool, NoMemory> {
+pub(crate) fn answer(alloc: Global, call: &str, given: &Given, told: &mut Telling) -> bool {
     match call {
-        "dep" | "dep-fault" | "dep-flags" | "dep-item" => dep(alloc, call, given, told)?,
-        "required" | "required-fault" | "required-flags" => required(alloc, call, given, told)?,
+        "dep" | "dep-fault" | "dep-flags" | "dep-item" => dep(alloc, call, given, told),
+        "required" | "required-fault" | "required-flags" => required(alloc, call, given, told),
         "dep-around" => around(alloc, given.number(0), told),
         "required-around" => around_required(alloc, given.number(0), told),
-        _ => return Ok(false),
+        _ => return false,
     }
-    Ok(true)
+    true
 }
 
 fn fault(alloc: Global, fault: ExprFault, told: &mut Telling) {
@@ -32,69 +27,51 @@ fn fault(alloc: Global, fault: ExprFault, told: &mut Telling) {
     }
 }
 
-fn dep(alloc: Global, call: &str, given: &Given, told: &mut Telling) -> Result<(), NoMemory> {
+fn dep(alloc: Global, call: &str, given: &Given, told: &mut Telling) {
     match read_dep(alloc, given.bytes(0)) {
-        Ok(items) => of_dep(alloc, call, &items, given.number(1), told)?,
+        Ok(items) => of_dep(alloc, call, &items, given.number(1), told),
         Err(found) => fault(alloc, found, told),
     }
-    Ok(())
 }
 
-fn of_dep(
-    alloc: Global,
-    call: &str,
-    items: &DepExpr,
-    n: u64,
-    told: &mut Telling,
-) -> Result<(), NoMemory> {
+fn of_dep(alloc: Global, call: &str, items: &DepExpr, n: u64, told: &mut Telling) {
     match call {
-        "dep" => printed(alloc, &items.copy(alloc)?, told)?,
-        "dep-flags" => told.joined(&mentioned_dep(alloc, items)?, b','),
-        "dep-item" => item(alloc, items, n, told)?,
+        "dep" => told.text(printed(alloc, items)),
+        "dep-flags" => told.texts(mentioned_dep(alloc, items), b','),
+        "dep-item" => item(alloc, items, n, told),
         _ => told.say("none"),
     }
-    Ok(())
 }
 
-fn printed(alloc: Global, items: &DepExpr, told: &mut Telling) -> Result<(), NoMemory> {
-    told.add(print_dep(alloc, items)?.bytes());
-    Ok(())
+fn printed(alloc: Global, items: &DepExpr) -> Result<Text, NoMemory> {
+    print_dep(alloc, &items.copy(alloc)?)
 }
 
-fn item(alloc: Global, items: &DepExpr, n: u64, told: &mut Telling) -> Result<(), NoMemory> {
+fn item(alloc: Global, items: &DepExpr, n: u64, told: &mut Telling) {
     if n < items.items.len() as u64 && n <= u64::from(u32::MAX) {
-        told.add(print_item(alloc, items, n as u32)?.bytes());
+        told.text(print_item(alloc, items, n as u32));
     } else {
         told.say("none");
     }
-    Ok(())
 }
 
-fn required(alloc: Global, call: &str, given: &Given, told: &mut Telling) -> Result<(), NoMemory> {
+fn required(alloc: Global, call: &str, given: &Given, told: &mut Telling) {
     match read_required(alloc, given.bytes(0)) {
-        Ok(items) => of_required(alloc, call, &items, told)?,
+        Ok(items) => of_required(alloc, call, &items, told),
         Err(found) => fault(alloc, found, told),
     }
-    Ok(())
 }
 
-fn of_required(
-    alloc: Global,
-    call: &str,
-    items: &UseExpr,
-    told: &mut Telling,
-) -> Result<(), NoMemory> {
+fn of_required(alloc: Global, call: &str, items: &UseExpr, told: &mut Telling) {
     match call {
-        "required" => printed_required(alloc, &items.copy(alloc)?, told)?,
-        "required-flags" => told.joined(&mentioned_required(alloc, items)?, b','),
+        "required" => told.text(printed_required(alloc, items)),
+        "required-flags" => told.texts(mentioned_required(alloc, items), b','),
         _ => told.say("none"),
     }
-    Ok(())
 }
 
-fn printed_required(alloc: Global, items: &UseExpr, told: &mut Telling) -> Result<(), NoMemory> {
-    told.add(print_required(alloc, items)?.bytes());
-    Ok(())
+fn printed_required(alloc: Global, items: &UseExpr) -> Result<Text, NoMemory> {
+    print_required(alloc, &items.copy(alloc)?)
 }
 
 fn refused(n: u64, depth: u32, told: &mut Telling) {

@@ -3,8 +3,10 @@
 //! Parts are separated by `;`. Behind a backslash `n`, `t`, `\` and `s` stand for a line feed, a tab, a backslash and `;`,
 //! `x` and two small digits for any byte, and a number in braces has what is behind it, up to the next one, so many times,
 //! with the number of the time, from 0, where `#` stands behind a backslash.
+ghost use Rattle.std.specs.Prelude.{◌≤◌};
+
 use crate::written::Telling;
-use gv_base::{NoMemory, Text, Texts};
+use gv_base::{NoMemory, Text, Texts, until};
 use std::alloc::Global;
 
 /// The parts of a line.
@@ -38,15 +40,44 @@ impl Given {
         self.number(n).min(1_000_000) as u32
     }
 
+    /// The same, and at least 1.
+    pub(crate) fn budget(&self, n: usize) -> u32
+        ensures some { 1 ≤ result }
+        ensures most { result ≤ 1000000 }
+    {
+        self.number(n).clamp(1, 1_000_000) as u32
+    }
+
     /// A part as words, and none where it has other bytes than those of words.
     pub(crate) fn words(&self, n: usize) -> &str {
-        std::str::from_utf8(self.bytes(n)).unwrap_or("")
+        words_in(self.bytes(n))
+    }
+
+    /// A copy of the parts from this one on.
+    pub(crate) fn copy_from(&self, alloc: Global, n: usize) -> Result<Texts, NoMemory> {
+        let mut parts = Texts::new(alloc);
+        for part in self.from(n) {
+            parts.add(part.copy(alloc)?)?;
+        }
+        Ok(parts)
     }
 
     /// The parts from this one on.
     pub(crate) fn from(&self, n: usize) -> &[Text] {
         self.parts.items().get(n..).unwrap_or(&[])
     }
+}
+
+/// Bytes as words, and none where they are other bytes than those of words.
+pub(crate) fn words_in(bytes: &[u8]) -> &str {
+    std::str::from_utf8(bytes).unwrap_or("")
+}
+
+/// The bytes in front of the first one of these, and those behind it.
+pub(crate) fn cut_at(bytes: &[u8], byte: u8) -> (&[u8], &[u8]) {
+    let front = until(bytes, byte);
+    let behind = bytes.get(front.len().saturating_add(1)..);
+    (front, behind.unwrap_or(&[]))
 }
 
 /// The number that digits are; other bytes are passed over.
@@ -181,12 +212,10 @@ const NUMBER: u8 = 1;
 
 // Adds a piece, with this number where one is asked for.
 fn add_numbered(done: &mut Telling, piece: &[u8], n: u32) {
-    let mut is_first = true;
-    for part in piece.split(|b| *b == NUMBER) {
-        if !is_first {
-            done.number(u64::from(n));
+    for b in piece {
+        match *b {
+            NUMBER => done.number(u64::from(n)),
+            _ => done.add(&[*b]),
         }
-        is_first = false;
-        done.add(part);
     }
 }

@@ -7,11 +7,12 @@ use crate::written::Telling;
 use gv_base::{Ledger, NoMemory, Steps};
 use gv_cert::{Known, write_known};
 use gv_checks::{
-    JudgeFault, Judged, QueryName, RecallFault, ask_one, judge, known_one, queries, recall,
+    Found1, JudgeFault, Judged, QueryName, RecallFault, ask_one, judge, known_one, queries, recall,
 };
 use gv_load::Repo;
 use gv_lower::LowerFault;
 use gv_report::{Options, Reports};
+use gv_solver::FlagSets;
 use std::alloc::Global;
 
 /// The number of queries and what is known of them, or why a repository is not judged.
@@ -21,36 +22,48 @@ pub(crate) fn judged<L: Ledger>(
     options: &Options,
     steps: &mut Steps<L>,
     told: &mut Telling,
-) -> Result<(), NoMemory> {
+) {
     match judge(alloc, repo, options, &Known::new(alloc), steps) {
-        Ok(found) => counts(alloc, repo, options, &found.copy(alloc)?, steps, told),
+        Ok(found) => of_copy(alloc, repo, options, found, steps, told),
         Err(fault) => refused(alloc, &fault, told),
     }
 }
 
-/// Why a repository is not judged.
-pub(crate) fn refused(
+fn of_copy<L: Ledger>(
     alloc: Global,
-    fault: &JudgeFault,
+    repo: &Repo,
+    options: &Options,
+    found: Judged,
+    steps: &mut Steps<L>,
     told: &mut Telling,
-) -> Result<(), NoMemory> {
+) {
+    match found.copy(alloc) {
+        Ok(found) => counts(alloc, repo, options, found, steps, told),
+        Err(NoMemory) => told.lack(),
+    }
+}
+
+/// Why a repository is not judged.
+pub(crate) fn refused(alloc: Global, fault: &JudgeFault, told: &mut Telling) {
     match fault {
         JudgeFault::Spent { name, sets } => {
             told.say("spent ");
-            add_name(alloc, name, told)?;
-            for set in sets.items() {
-                told.add(b";");
-                add_flags(set.items(), told);
-            }
-            Ok(())
+            add_name(alloc, name, told);
+            add_sets(sets, told);
         }
         JudgeFault::Limit { place, number } => {
-            told.add(place.copy(alloc)?.bytes());
+            told.text(place.copy(alloc));
             told.add(b" ");
             told.number(*number);
-            Ok(())
         }
-        JudgeFault::NoMemory => Err(NoMemory),
+        JudgeFault::NoMemory => told.lack(),
+    }
+}
+
+fn add_sets(sets: &FlagSets, told: &mut Telling) {
+    for set in sets.items() {
+        told.add(b";");
+        add_flags(set.items(), told);
     }
 }
 
@@ -73,25 +86,17 @@ fn counts<L: Ledger>(
     alloc: Global,
     repo: &Repo,
     options: &Options,
-    found: &Judged,
+    found: Judged,
     steps: &mut Steps<L>,
     told: &mut Telling,
-) -> Result<(), NoMemory> {
+) {
     add_count(found.queries, " queries, ", told);
     add_count(found.certs.count(), " records, ", told);
-    let known = known_count(alloc, repo, options, &found.certs, steps)?;
+    let known = known_count(alloc, repo, options, &found.certs, steps, told);
     add_count(known, " known, ", told);
-    let is_recalled = is_recalled(alloc, repo, options, found, steps)?;
-    told.say(if is_recalled {
-        "recalled, "
-    } else {
-        "not recalled, "
-    });
-    let wanting = wanting(alloc, repo, options, steps)?;
-    add_count(wanting, " wanting, ", told);
-    let is_left = is_left(alloc, repo, options, &found.certs, steps)?;
-    told.say(if is_left { "left" } else { "not left" });
-    Ok(())
+    recalled(alloc, repo, options, &found, steps, told);
+    wanting(alloc, repo, options, steps, told);
+    left(alloc, repo, options, &found.certs, steps, told);
 }
 
 fn known_count<L: Ledger>(
@@ -100,14 +105,19 @@ fn known_count<L: Ledger>(
     options: &Options,
     certs: &Known,
     steps: &mut Steps<L>,
-) -> Result<u32, NoMemory> {
+    told: &mut Telling,
+) -> u32 {
     let mut known: u32 = 0;
-    for name in queries(alloc, repo, options)?.items() {
-        if is_known(alloc, repo, name, options, certs, steps)? {
+    let Ok(names) = queries(alloc, repo, options) else {
+        told.lack();
+        return known;
+    };
+    for name in names.items() {
+        if is_known(alloc, repo, name, options, certs, steps, told) {
             known = known.saturating_add(1);
         }
     }
-    Ok(known)
+    known
 }
 
 /// How many of the queries the records of a file of the store answer, and how many records it has.
@@ -118,8 +128,10 @@ pub(crate) fn answered<L: Ledger>(
     certs: &Known,
     steps: &mut Steps<L>,
     told: &mut Telling,
-) -> Result<(), NoMemory> {
-    let names = queries(alloc, repo, options)?;
+) {
+    let Ok(names) = queries(alloc, repo, options) else {
+        return told.lack();
+    };
     let mut count: u32 = 0;
     for name in names.items() {
         if is_reused(alloc, repo, name, options, certs, steps) {
@@ -130,7 +142,6 @@ pub(crate) fn answered<L: Ledger>(
     told.number(names.items().len() as u64);
     told.say(" by ");
     add_count(certs.count(), " records", told);
-    Ok(())
 }
 
 fn is_reused<L: Ledger>(
@@ -157,49 +168,89 @@ fn is_known<L: Ledger>(
     options: &Options,
     certs: &Known,
     steps: &mut Steps<L>,
-) -> Result<bool, NoMemory>
+    told: &mut Telling,
+) -> bool
     requires { HasNamed options.now repo.now name.now }
 {
-    let Ok(found) = ask_one(alloc, repo, name, options, certs, steps) else {
-        return Ok(false);
-    };
-    let again = match known_one(alloc, repo, name, options, certs, steps) {
+    match ask_one(alloc, repo, name, options, certs, steps) {
+        Ok(found) => {
+            found.reused
+                && is_found_again(alloc, repo, name, options, certs, &found, steps, told)
+                && is_unknown(alloc, repo, name, options, steps)
+        }
+        Err(_) => false,
+    }
+}
+
+fn is_found_again<L: Ledger>(
+    alloc: Global,
+    repo: &Repo,
+    name: &QueryName,
+    options: &Options,
+    certs: &Known,
+    found: &Found1,
+    steps: &mut Steps<L>,
+    told: &mut Telling,
+) -> bool
+    requires { HasNamed options.now repo.now name.now }
+{
+    match known_one(alloc, repo, name, options, certs, steps) {
         Ok(Some(again)) => again.reused && again.answer == found.answer,
         Ok(None) => false,
-        Err(LowerFault::NoMemory) => return Err(NoMemory),
+        Err(LowerFault::NoMemory) => {
+            told.lack();
+            false
+        }
         Err(_) => false,
-    };
-    let none = known_one(alloc, repo, name, options, &Known::new(alloc), steps);
-    Ok(found.reused && again && matches!(&none, Ok(None)))
+    }
+}
+
+fn is_unknown<L: Ledger>(
+    alloc: Global,
+    repo: &Repo,
+    name: &QueryName,
+    options: &Options,
+    steps: &mut Steps<L>,
+) -> bool
+    requires { HasNamed options.now repo.now name.now }
+{
+    let none = Known::new(alloc);
+    is_nothing(known_one(alloc, repo, name, options, &none, steps))
+}
+
+fn is_nothing(found: Result<Option<Found1>, LowerFault>) -> bool {
+    matches!(&found, Ok(None))
 }
 
 // Whether the records alone give as many queries and the same reports.
-fn is_recalled<L: Ledger>(
+fn recalled<L: Ledger>(
     alloc: Global,
     repo: &Repo,
     options: &Options,
     found: &Judged,
     steps: &mut Steps<L>,
-) -> Result<bool, NoMemory> {
-    match recall(alloc, repo, options, &found.certs, steps) {
-        Ok(again) if again.queries == found.queries => {
-            are_same(alloc, options, &again.reports, &found.reports)
+    told: &mut Telling,
+) {
+    let is_same = match recall(alloc, repo, options, &found.certs, steps) {
+        Ok(again) => {
+            again.queries == found.queries
+                && are_same(alloc, options, &again.reports, &found.reports)
         }
-        _ => Ok(false),
-    }
+        Err(_) => false,
+    };
+    told.say(if is_same {
+        "recalled, "
+    } else {
+        "not recalled, "
+    });
 }
 
-fn are_same(
-    alloc: Global,
-    options: &Options,
-    one: &Reports,
-    other: &Reports,
-) -> Result<bool, NoMemory> {
+fn are_same(alloc: Global, options: &Options, one: &Reports, other: &Reports) -> bool {
     let mut first = Telling::new(alloc);
-    printed(alloc, options, one, &mut first)?;
+    printed(alloc, options, one, &mut first);
     let mut second = Telling::new(alloc);
-    printed(alloc, options, other, &mut second)?;
-    Ok(first.bytes()? == second.bytes()?)
+    printed(alloc, options, other, &mut second);
+    first.is(&second)
 }
 
 // The query that is told where there are no records, or 0.
@@ -208,26 +259,32 @@ fn wanting<L: Ledger>(
     repo: &Repo,
     options: &Options,
     steps: &mut Steps<L>,
-) -> Result<u32, NoMemory> {
+    told: &mut Telling,
+) {
     match recall(alloc, repo, options, &Known::new(alloc), steps) {
-        Ok(none) => Ok(none.queries),
-        Err(RecallFault::NotBacked { query }) => Ok(query),
-        Err(RecallFault::Limit { .. }) => Ok(0),
-        Err(RecallFault::NoMemory) => Err(NoMemory),
+        Ok(none) => add_count(none.queries, " wanting, ", told),
+        Err(RecallFault::NotBacked { query }) => add_count(query, " wanting, ", told),
+        Err(RecallFault::Limit { .. }) => add_count(0, " wanting, ", told),
+        Err(RecallFault::NoMemory) => told.lack(),
     }
 }
 
 // Whether judging over the records leaves the same ones.
-fn is_left<L: Ledger>(
+fn left<L: Ledger>(
     alloc: Global,
     repo: &Repo,
     options: &Options,
     certs: &Known,
     steps: &mut Steps<L>,
-) -> Result<bool, NoMemory> {
-    match judge(alloc, repo, options, certs, steps) {
+    told: &mut Telling,
+) {
+    let is_left = match judge(alloc, repo, options, certs, steps) {
         Ok(again) => are_written_alike(alloc, &again.certs, certs),
         Err(_) => Ok(false),
+    };
+    match is_left {
+        Ok(is_left) => told.say(if is_left { "left" } else { "not left" }),
+        Err(NoMemory) => told.lack(),
     }
 }
 

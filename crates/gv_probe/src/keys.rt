@@ -8,7 +8,7 @@ use crate::lower::{Case, case_of};
 use crate::written::Telling;
 use gv_base::NoMemory;
 use gv_entry::Body;
-use gv_expr::DepExpr;
+use gv_expr::{DepExpr, UseExpr};
 use gv_facts::{Level, Pkg, Pkgs, Profile, Profiles};
 use gv_lower::{ClassSites, RequiredFlags, add_class_key, add_required_key};
 use gv_usestate::{ProfileStates, RuledFlags};
@@ -16,30 +16,35 @@ use gv_visible::{Candidates, visible};
 use std::alloc::Global;
 
 /// Tells the answer to the call of keys, whose parts are those of a query.
-pub(crate) fn answer(
-    alloc: Global,
-    call: &str,
-    given: &Given,
-    told: &mut Telling,
-) -> Result<bool, NoMemory> {
+pub(crate) fn answer(alloc: Global, call: &str, given: &Given, told: &mut Telling) -> bool {
     if call != "key" {
-        return Ok(false);
+        return false;
     }
-    match case_of(alloc, given)? {
-        Some(case) => tell_key(alloc, &case, told)?,
-        None => told.say("no packages"),
+    match case_of(alloc, given) {
+        Ok(Some(case)) => tell_key(alloc, case, told),
+        Ok(None) => told.say("no packages"),
+        Err(NoMemory) => told.lack(),
     }
-    Ok(true)
+    true
 }
 
-fn tell_key(alloc: Global, case: &Case, told: &mut Telling) -> Result<(), NoMemory> {
-    let mut profiles = Profiles::new(alloc);
-    profiles.add(case.profile.copy(alloc)?)?;
-    let key = key_among(alloc, &case.pkgs, &profiles, &case.body)?;
-    for number in key.as_slice() {
+fn tell_key(alloc: Global, case: Case, told: &mut Telling) {
+    match key_of(alloc, &case) {
+        Ok(key) => add_numbers(key.as_slice(), told),
+        Err(NoMemory) => told.lack(),
+    }
+}
+
+fn add_numbers(key: &[u8], told: &mut Telling) {
+    for number in key {
         told.add(&[number.saturating_add(b'0')]);
     }
-    Ok(())
+}
+
+fn key_of(alloc: Global, case: &Case) -> Result<Vec<u8>, NoMemory> {
+    let mut profiles = Profiles::new(alloc);
+    profiles.add(case.profile.copy(alloc)?)?;
+    key_among(alloc, &case.pkgs, &profiles, &case.body)
 }
 
 fn first(profiles: &[Profile]) -> Option<&Profile>
@@ -86,18 +91,62 @@ fn key_in<'a>(
 ) -> Result<Vec<u8>, NoMemory>
     requires { IsOneOf ruled.now profile.now }
 {
-    let states = ProfileStates::new(alloc, profile)?;
     let mut key = Vec::new(alloc);
-    for pkg in pkgs.items().iter().take(1) {
-        if let Some(required) = &body.required {
-            let flags = RequiredFlags::new(alloc, ruled, pkg, required)?;
-            add_required_key(&flags, &states, Level::Stable, &mut key)?;
-        }
-        if let Some(class) = &body.rdepend {
-            add_class(alloc, pkgs, ruled, &states, profile, pkg, class, &mut key)?;
-        }
+    if let [pkg, ..] = pkgs.items() {
+        add_key(alloc, pkgs, ruled, profile, pkg, body, &mut key)?;
     }
     Ok(key)
+}
+
+fn add_key<'a>(
+    alloc: Global,
+    pkgs: &'a Pkgs,
+    ruled: &'a RuledFlags<'a>,
+    profile: &'a Profile,
+    pkg: &'a Pkg,
+    body: &'a Body,
+    key: &mut Vec<u8>,
+) -> Result<(), NoMemory>
+    requires { IsOneOf ruled.now profile.now }
+{
+    let states = ProfileStates::new(alloc, profile)?;
+    add_both(alloc, pkgs, ruled, &states, profile, pkg, body, key)
+}
+
+fn add_both<'a>(
+    alloc: Global,
+    pkgs: &'a Pkgs,
+    ruled: &'a RuledFlags<'a>,
+    states: &ProfileStates<'_>,
+    profile: &'a Profile,
+    pkg: &'a Pkg,
+    body: &'a Body,
+    key: &mut Vec<u8>,
+) -> Result<(), NoMemory>
+    requires one { IsOneOf ruled.now profile.now }
+    requires states { states.now ≡ profile.now }
+{
+    if let Some(required) = &body.required {
+        add_required(alloc, ruled, states, pkg, required, key)?;
+    }
+    match &body.rdepend {
+        Some(class) => add_class(alloc, pkgs, ruled, states, profile, pkg, class, key),
+        None => Ok(()),
+    }
+}
+
+fn add_required<'a>(
+    alloc: Global,
+    ruled: &'a RuledFlags<'a>,
+    states: &ProfileStates<'_>,
+    pkg: &'a Pkg,
+    required: &'a UseExpr,
+    key: &mut Vec<u8>,
+) -> Result<(), NoMemory>
+    requires { IsOneOf ruled.now states.now }
+{
+    let flags = RequiredFlags::new(alloc, ruled, pkg, required)?;
+    add_required_key(&flags, states, Level::Stable, key)
 }
 
 // Adds the key of a class of the package.

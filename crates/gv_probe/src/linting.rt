@@ -1,14 +1,14 @@
 //! Calls of `gv_usedefaults` over the files: what a walk reads, what the stack of a line says of flags, and their defaults. A walk is
 //! over these files, or over those with the bytes of the second part at the path of the first, where the load was not.
 use crate::given::Given;
-use crate::loading::fault;
+use crate::loading::{fault, repo_of};
 use crate::outside::Outside;
 use crate::profiles::{add_rule, add_words};
 use crate::written::Telling;
-use gv_base::{MemTree, NoMemory};
+use gv_base::{MemTree, NoMemory, Text};
 use gv_facts::{Level, Pkg, Profile};
-use gv_load::{LoadFault, Repo, load};
-use gv_usedefaults::{LineFile, Walk, default_on, defaults_of, kind_name, walk_files};
+use gv_load::{LoadFault, Repo};
+use gv_usedefaults::{LineFile, UseDefaults, Walk, default_on, defaults_of, kind_name, walk_files};
 use gv_visible::judged;
 use std::alloc::Global;
 
@@ -19,21 +19,42 @@ pub(crate) fn answer(
     given: &Given,
     outside: &Outside,
     told: &mut Telling,
-) -> Result<bool, NoMemory> {
+) -> bool {
     if !matches!(call, "walked" | "line-defaults" | "flag-defaults") {
-        return Ok(false);
+        return false;
     }
-    let mut tree = outside.tree(alloc)?;
-    let Ok(repo) = load(alloc, &mut tree) else {
-        told.say("no repository");
-        return Ok(true);
+    if let Some(repo) = repo_of(alloc, outside, told) {
+        over(alloc, call, given, outside, repo, told);
+    }
+    true
+}
+
+fn over(
+    alloc: Global,
+    call: &str,
+    given: &Given,
+    outside: &Outside,
+    repo: Repo,
+    told: &mut Telling,
+) {
+    over_tree(alloc, call, given, outside, &repo, told);
+}
+
+fn over_tree(
+    alloc: Global,
+    call: &str,
+    given: &Given,
+    outside: &Outside,
+    repo: &Repo,
+    told: &mut Telling,
+) {
+    let Ok(mut tree) = other_tree(alloc, call, given, outside) else {
+        return told.lack();
     };
-    let mut tree = other_tree(alloc, call, given, outside)?;
-    match walk_over(alloc, &mut tree, &repo) {
-        Ok(walk) => tell(alloc, call, given, &repo, &walk, told)?,
+    match walk_over(alloc, &mut tree, repo) {
+        Ok(walk) => tell(alloc, call, given, repo, walk, told),
         Err(found) => fault(&found, told),
     }
-    Ok(true)
 }
 
 fn other_tree(
@@ -55,25 +76,21 @@ fn walk_over(alloc: Global, tree: &mut MemTree, repo: &Repo) -> Result<Walk, Loa
     Ok(Walk { files, stacks })
 }
 
-fn tell(
-    alloc: Global,
-    call: &str,
-    given: &Given,
-    repo: &Repo,
-    walk: &Walk,
-    told: &mut Telling,
-) -> Result<(), NoMemory> {
+fn tell(alloc: Global, call: &str, given: &Given, repo: &Repo, walk: Walk, told: &mut Telling) {
     match call {
-        "walked" => walked(alloc, walk, told),
-        "line-defaults" => line_defaults(alloc, given, repo, walk, told),
-        _ => flag_defaults(alloc, given, repo, walk, told),
+        "walked" => walked(alloc, &walk, told),
+        "line-defaults" => line_defaults(alloc, given, repo, &walk, told),
+        _ => flag_defaults(alloc, given, repo, &walk, told),
     }
 }
 
 // Each file with its directory, its kind and its length, and then the directories of each stack behind its line.
-fn walked(alloc: Global, walk: &Walk, told: &mut Telling) -> Result<(), NoMemory> {
+fn walked(alloc: Global, walk: &Walk, told: &mut Telling) {
     for file in walk.files.items() {
-        add_file(&file.copy(alloc)?, told);
+        match file.copy(alloc) {
+            Ok(file) => add_file(&file, told),
+            Err(NoMemory) => told.lack(),
+        }
     }
     for stack in walk.stacks.items() {
         told.number(u64::from(stack.line));
@@ -81,7 +98,6 @@ fn walked(alloc: Global, walk: &Walk, told: &mut Telling) -> Result<(), NoMemory
         told.joined(&stack.dirs, b' ');
         told.say("; ");
     }
-    Ok(())
 }
 
 fn add_file(file: &LineFile, told: &mut Telling) {
@@ -96,65 +112,56 @@ fn add_file(file: &LineFile, told: &mut Telling) {
 }
 
 // USE, what is left of all flags, the variables of USE_EXPAND, and the words of package.use.
-fn line_defaults(
-    alloc: Global,
-    given: &Given,
-    repo: &Repo,
-    walk: &Walk,
-    told: &mut Telling,
-) -> Result<(), NoMemory> {
-    let defaults = defaults_of(alloc, repo, walk, given.small_number(0))?;
+fn line_defaults(alloc: Global, given: &Given, repo: &Repo, walk: &Walk, told: &mut Telling) {
+    match defaults_of(alloc, repo, walk, given.small_number(0)) {
+        Ok(defaults) => add_defaults(alloc, defaults, told),
+        Err(NoMemory) => told.lack(),
+    }
+}
+
+fn add_defaults(alloc: Global, defaults: UseDefaults, told: &mut Telling) {
     add_words(b"USE", defaults.on.words(), told);
     add_words(b"left", defaults.kept.words(), told);
     for list in defaults.expand.items() {
         add_words(list.name.bytes(), &list.words, told);
     }
     for rule in defaults.rules.items() {
-        add_rule(alloc, rule, told)?;
-    }
-    Ok(())
-}
-
-// The defaults of flags, `-` before those that are off, of the package at a place in the profile at one, where it is judged.
-fn flag_defaults(
-    alloc: Global,
-    given: &Given,
-    repo: &Repo,
-    walk: &Walk,
-    told: &mut Telling,
-) -> Result<(), NoMemory> {
-    let (Some(pkg), Some(profile)) = (
-        repo.pkgs.items().get(given.small_number(0) as usize),
-        repo.profiles.items().get(given.small_number(1) as usize),
-    ) else {
-        told.say("none");
-        return Ok(());
-    };
-    match judged(pkg, profile) {
-        Some(level) => flags(alloc, given, repo, walk, (pkg, profile, level), told),
-        None => {
-            told.say("not judged");
-            Ok(())
+        if add_rule(alloc, rule, told).is_err() {
+            told.lack();
         }
     }
 }
 
+// The defaults of flags, `-` before those that are off, of the package at a place in the profile at one, where it is judged.
+fn flag_defaults(alloc: Global, given: &Given, repo: &Repo, walk: &Walk, told: &mut Telling) {
+    let Some(pkg) = repo.pkgs.items().get(given.small_number(0) as usize) else {
+        return told.say("none");
+    };
+    let Some(profile) = repo.profiles.items().get(given.small_number(1) as usize) else {
+        return told.say("none");
+    };
+    let Some(level) = judged(pkg, profile) else {
+        return told.say("not judged");
+    };
+    match defaults_of(alloc, repo, walk, profile.line) {
+        Ok(defaults) => flags(pkg, profile, level, defaults, given.from(2), told),
+        Err(NoMemory) => told.lack(),
+    }
+}
+
 fn flags(
-    alloc: Global,
-    given: &Given,
-    repo: &Repo,
-    walk: &Walk,
-    judged: (&Pkg, &Profile, Level),
+    pkg: &Pkg,
+    profile: &Profile,
+    level: Level,
+    defaults: UseDefaults,
+    flags: &[Text],
     told: &mut Telling,
-) -> Result<(), NoMemory> {
-    let (pkg, profile, level) = judged;
-    let defaults = defaults_of(alloc, repo, walk, profile.line)?;
-    for flag in given.from(2) {
+) {
+    for flag in flags {
         if !default_on(pkg, profile, level, &defaults, flag) {
             told.add(b"-");
         }
         told.add(flag.bytes());
         told.add(b" ");
     }
-    Ok(())
 }

@@ -1,24 +1,45 @@
 //! Calls of `gv_load` over the outside in memory.
 use crate::outside::Outside;
 use crate::written::Telling;
-use gv_base::{NoMemory, Text};
+use gv_base::{MemTree, NoMemory, Text};
 use gv_load::{LoadFault, Repo, load};
 use gv_report::{Report, Subject};
 use std::alloc::Global;
 
 /// Tells the notes of a load, then the packages and the profiles, a line each, or the fault.
-pub(crate) fn loaded(
-    alloc: Global,
-    outside: &mut Outside,
-    told: &mut Telling,
-) -> Result<(), NoMemory> {
-    let mut tree = outside.tree(alloc)?;
-    outside.forget();
+pub(crate) fn loaded(alloc: Global, outside: &mut Outside, told: &mut Telling) {
+    match outside.tree(alloc) {
+        Ok(tree) => load_of(alloc, tree, told),
+        Err(NoMemory) => told.lack(),
+    }
+    outside.forget(alloc);
+}
+
+fn load_of(alloc: Global, tree: MemTree, told: &mut Telling) {
+    let mut tree = tree;
     match load(alloc, &mut tree) {
-        Ok(repo) => tell(&repo, told),
+        Ok(repo) => tell_all(repo, told),
         Err(found) => fault(&found, told),
     }
-    Ok(())
+}
+
+/// The repository of the files, and none where none is loaded, which is told.
+pub(crate) fn repo_of(alloc: Global, outside: &Outside, told: &mut Telling) -> Option<Repo> {
+    let Ok(mut tree) = outside.tree(alloc) else {
+        told.lack();
+        return None;
+    };
+    match load(alloc, &mut tree) {
+        Ok(repo) => Some(repo),
+        Err(_) => {
+            told.say("no repository");
+            None
+        }
+    }
+}
+
+fn tell_all(repo: Repo, told: &mut Telling) {
+    tell(&repo, told);
 }
 
 /// A repository, as it is told.

@@ -3,10 +3,10 @@
 //! A list has commas between its numbers, and `-` is the empty one. Gates are the number of inputs, each gate as `&` or `|`
 //! and the list of its operands, a colon and the root; clauses are the number of variables, a colon and a list for each.
 //! Bytes are words of hexadecimal digits; a word that is none stands for its own bytes.
-ghost use Rattle.std.specs.Prelude.{◌*◌, ◌<◌, IsTrue};
+ghost use Rattle.std.specs.Prelude.{◌*◌, ◌<◌, ◌≡◌, IsTrue, length};
 ghost use Rattle.std.specs.List.{AllByRecursion};
 
-use crate::given::{Given, number_in};
+use crate::given::{Given, number_in, words_in};
 use crate::written::Telling;
 use gv_base::{NoMemory, Text, words_of};
 use gv_encode::{encode, encoding_law};
@@ -25,9 +25,9 @@ pub(crate) fn u32_in(digits: &[u8]) -> u32 {
 /// The numbers of a list.
 pub(crate) fn numbers_in(alloc: Global, list: &[u8]) -> Result<Vec<u32>, NoMemory> {
     let mut numbers = Vec::new(alloc);
-    for digits in list.split(|b| *b == b',') {
-        if let [b'0'..=b'9', ..] = digits {
-            numbers.push(u32_in(digits))?;
+    for digits in words_in(list).split(',') {
+        if let [b'0'..=b'9', ..] = digits.as_bytes() {
+            numbers.push(u32_in(digits.as_bytes()))?;
         }
     }
     Ok(numbers)
@@ -55,8 +55,9 @@ pub(crate) fn bits_in(alloc: Global, digits: &[u8]) -> Result<Bits, NoMemory> {
 
 /// The bytes of words of digits.
 pub(crate) fn bytes_in(alloc: Global, digits: &[u8]) -> Result<Text, NoMemory> {
+    let words = words_of(alloc, digits)?;
     let mut bytes = Telling::new(alloc);
-    for word in words_of(alloc, digits)?.items() {
+    for word in words.items() {
         add_read(alloc, word.bytes(), &mut bytes);
     }
     Text::of(alloc, bytes.bytes()?)
@@ -71,32 +72,38 @@ fn add_read(alloc: Global, word: &[u8], bytes: &mut Telling) {
 }
 
 /// The digits of bytes.
-pub(crate) fn digits_of(alloc: Global, bytes: &[u8], told: &mut Telling) -> Result<(), NoMemory> {
-    told.say(hex::encode(alloc, bytes)?.as_str());
-    Ok(())
+pub(crate) fn digits_of(alloc: Global, bytes: &[u8], told: &mut Telling) {
+    told.formatted(hex::encode(alloc, bytes));
 }
 
 /// Gates; none where what is written is none.
 pub(crate) fn gates_in(alloc: Global, text: &[u8]) -> Result<Option<Gates>, NoMemory> {
-    let mut bytes = Telling::new(alloc);
-    put_gates(alloc, text, &mut bytes)?;
-    match read_gates(alloc, bytes.bytes()?)? {
+    match read_gates(alloc, gates_bytes(alloc, text)?.bytes()?)? {
         Some(gates) => Ok(Some(gates.copy(alloc)?)),
         None => Ok(None),
     }
 }
 
-fn put_gates(alloc: Global, text: &[u8], bytes: &mut Telling) -> Result<(), NoMemory> {
+fn gates_bytes(alloc: Global, text: &[u8]) -> Result<Telling, NoMemory> {
     let words = words_of(alloc, text)?;
+    let mut bytes = Telling::new(alloc);
     if let [inputs, gates @ .., _, root] = words.items() {
-        put(u32_in(inputs.bytes()), bytes);
-        put(gates.len().min(u32::MAX as usize) as u32, bytes);
-        for gate in gates {
-            put_gate(alloc, gate.bytes(), bytes)?;
-        }
-        put(u32_in(root.bytes()), bytes);
+        put(u32_in(inputs.bytes()), &mut bytes);
+        put_gates(alloc, gates, &mut bytes);
+        put(u32_in(root.bytes()), &mut bytes);
     }
-    Ok(())
+    Ok(bytes)
+}
+
+fn put_gates(alloc: Global, gates: &[Text], bytes: &mut Telling) {
+    put_count(gates.len(), bytes);
+    for gate in gates {
+        put_gate(alloc, gate.bytes(), bytes);
+    }
+}
+
+fn put_count(count: usize, bytes: &mut Telling) {
+    put(count.min(u32::MAX as usize) as u32, bytes);
 }
 
 fn put(number: u32, bytes: &mut Telling) {
@@ -104,7 +111,7 @@ fn put(number: u32, bytes: &mut Telling) {
 }
 
 // The bytes of a gate, of which a sign that is none makes none.
-fn put_gate(alloc: Global, gate: &[u8], bytes: &mut Telling) -> Result<(), NoMemory> {
+fn put_gate(alloc: Global, gate: &[u8], bytes: &mut Telling) {
     match gate.split_first() {
         Some((b'&', operands)) => put_op(alloc, 0, operands, bytes),
         Some((b'|', operands)) => put_op(alloc, 1, operands, bytes),
@@ -112,14 +119,19 @@ fn put_gate(alloc: Global, gate: &[u8], bytes: &mut Telling) -> Result<(), NoMem
     }
 }
 
-fn put_op(alloc: Global, op: u8, list: &[u8], bytes: &mut Telling) -> Result<(), NoMemory> {
-    let operands = numbers_in(alloc, list)?;
+fn put_op(alloc: Global, op: u8, list: &[u8], bytes: &mut Telling) {
     bytes.add(&[op]);
-    put(operands.len().min(u32::MAX as usize) as u32, bytes);
-    for operand in operands.iter() {
-        put(*operand, bytes);
+    match numbers_in(alloc, list) {
+        Ok(operands) => put_numbers(operands.as_slice(), bytes),
+        Err(NoMemory) => bytes.lack(),
     }
-    Ok(())
+}
+
+fn put_numbers(numbers: &[u32], bytes: &mut Telling) {
+    put_count(numbers.len(), bytes);
+    for number in numbers {
+        put(*number, bytes);
+    }
 }
 
 /// Tells a list of numbers.
@@ -228,107 +240,138 @@ fn told_clauses(clauses: &Clauses, told: &mut Telling) {
     }
 }
 
-/// Tells the answer to a call over gates and bits.
-pub(crate) fn of_gates(
-    alloc: Global,
-    call: &str,
-    given: &Given,
-    told: &mut Telling,
-) -> Result<(), NoMemory> {
-    match gates_in(alloc, given.bytes(0))? {
-        Some(gates) => by_call(alloc, call, &gates, given, told)?,
-        None => told.say("no gates"),
-    }
-    Ok(())
-}
-
-fn by_call(
-    alloc: Global,
-    call: &str,
-    gates: &Gates,
-    given: &Given,
-    told: &mut Telling,
-) -> Result<(), NoMemory> {
-    encoding_law();
+/// Tells the answer to a call of these libraries, if it is one.
+pub(crate) fn answer(alloc: Global, call: &str, given: &Given, told: &mut Telling) -> bool {
     match call {
-        "gate-bytes" => digits_of(alloc, gate_bytes(alloc, gates)?.bytes(), told)?,
-        "clause-count" => told.number(u64::from(clause_count(gates))),
-        "encode" => told_clauses(&encode(alloc, gates)?, told),
-        _ => at_bits(alloc, call, gates, given.bytes(1), told)?,
+        "value" | "values" | "gate-bytes" | "clause-count" | "encode" => {
+            of_gates(alloc, call, given, told);
+        }
+        "read-gates" => read(alloc, given, told),
+        "clauses" | "clause" => of_clauses(alloc, call, given, told),
+        "opposites" => opposites(alloc, given, told),
+        "is-on" => is_marked(alloc, given, told),
+        _ => return false,
     }
-    Ok(())
+    true
 }
 
-fn at_bits(
-    alloc: Global,
-    call: &str,
-    gates: &Gates,
-    digits: &[u8],
-    told: &mut Telling,
-) -> Result<(), NoMemory> {
-    let bits = bits_in(alloc, digits)?;
+fn of_gates(alloc: Global, call: &str, given: &Given, told: &mut Telling) {
+    match gates_in(alloc, given.bytes(0)) {
+        Ok(Some(gates)) => by_call(alloc, call, &gates, given, told),
+        Ok(None) => told.say("no gates"),
+        Err(NoMemory) => told.lack(),
+    }
+}
+
+fn by_call(alloc: Global, call: &str, gates: &Gates, given: &Given, told: &mut Telling) {
+    match call {
+        "gate-bytes" => encoded(alloc, gates, told),
+        "clause-count" => told.number(u64::from(clause_count(gates))),
+        "encode" => clauses_of_gates(alloc, gates, told),
+        _ => at_bits(alloc, call, gates, given.bytes(1), told),
+    }
+}
+
+fn encoded(alloc: Global, gates: &Gates, told: &mut Telling) {
+    match gate_bytes(alloc, gates) {
+        Ok(bytes) => digits_of(alloc, bytes.bytes(), told),
+        Err(NoMemory) => told.lack(),
+    }
+}
+
+fn clauses_of_gates(alloc: Global, gates: &Gates, told: &mut Telling) {
+    encoding_law();
+    match encode(alloc, gates) {
+        Ok(clauses) => told_clauses(&clauses, told),
+        Err(NoMemory) => told.lack(),
+    }
+}
+
+fn at_bits(alloc: Global, call: &str, gates: &Gates, digits: &[u8], told: &mut Telling) {
+    let Ok(bits) = bits_in(alloc, digits) else {
+        return told.lack();
+    };
     if bits.items().len() != gates.inputs() as usize {
-        told.say("other bits");
-        return Ok(());
+        return told.say("other bits");
     }
     if call == "value" {
-        told_bits(&[value(alloc, gates, &bits)?], told);
+        value_at(alloc, gates, &bits, told);
     } else {
-        told_bits(values(alloc, gates, &bits)?.items(), told);
+        values_at(alloc, gates, &bits, told);
     }
-    Ok(())
 }
 
-/// Tells the gates that bytes are.
-pub(crate) fn read(alloc: Global, given: &Given, told: &mut Telling) -> Result<(), NoMemory> {
-    match read_gates(alloc, bytes_in(alloc, given.bytes(0))?.bytes())? {
-        Some(gates) => told_gates(&gates, told),
-        None => told.say("none"),
+fn value_at(alloc: Global, gates: &Gates, bits: &Bits, told: &mut Telling)
+    requires { length bits.now ≡ gates.now.inputs }
+{
+    match value(alloc, gates, bits) {
+        Ok(is_on) => told_bits(&[is_on], told),
+        Err(NoMemory) => told.lack(),
     }
-    Ok(())
 }
 
-/// Tells the clause of a number, or all of them.
-pub(crate) fn of_clauses(
-    alloc: Global,
-    call: &str,
-    given: &Given,
-    told: &mut Telling,
-) -> Result<(), NoMemory> {
-    match clauses_in(alloc, given.bytes(0))? {
-        Some(clauses) if call == "clauses" => told_clauses(&clauses, told),
-        Some(clauses) => clause_at(&clauses, u32_in(given.bytes(1)), told),
-        None => told.say("no clauses"),
+fn values_at(alloc: Global, gates: &Gates, bits: &Bits, told: &mut Telling)
+    requires { length bits.now ≡ gates.now.inputs }
+{
+    match values(alloc, gates, bits) {
+        Ok(on) => told_bits(on.items(), told),
+        Err(NoMemory) => told.lack(),
     }
-    Ok(())
 }
 
-fn clause_at(clauses: &Clauses, number: u32, told: &mut Telling) {
-    match clauses.get(number) {
+// The gates that bytes are.
+fn read(alloc: Global, given: &Given, told: &mut Telling) {
+    match read_from(alloc, given.bytes(0)) {
+        Ok(Some(gates)) => told_gates(&gates, told),
+        Ok(None) => told.say("none"),
+        Err(NoMemory) => told.lack(),
+    }
+}
+
+fn read_from(alloc: Global, digits: &[u8]) -> Result<Option<Gates>, NoMemory> {
+    read_gates(alloc, bytes_in(alloc, digits)?.bytes())
+}
+
+// The clause of a number, or all of them.
+fn of_clauses(alloc: Global, call: &str, given: &Given, told: &mut Telling) {
+    match clauses_in(alloc, given.bytes(0)) {
+        Ok(Some(clauses)) => clauses_or_one(&clauses, call, given.bytes(1), told),
+        Ok(None) => told.say("no clauses"),
+        Err(NoMemory) => told.lack(),
+    }
+}
+
+fn clauses_or_one(clauses: &Clauses, call: &str, number: &[u8], told: &mut Telling) {
+    if call == "clauses" {
+        return told_clauses(clauses, told);
+    }
+    match clauses.get(u32_in(number)) {
         Some(clause) => tell_lits(clause, told),
         None => told.say("none"),
     }
 }
 
-/// Tells the opposites of literals.
-pub(crate) fn opposites(alloc: Global, given: &Given, told: &mut Telling) -> Result<(), NoMemory> {
-    let clause = clause_in(alloc, given.bytes(0))?;
-    let opposites = opposites_of(alloc, &Lits::of(alloc, clause.items())?)?;
-    tell_lits(opposites.copy(alloc)?.items(), told);
-    Ok(())
+// The opposites of literals.
+fn opposites(alloc: Global, given: &Given, told: &mut Telling) {
+    match opposites_of(alloc, given.bytes(0)) {
+        Ok(opposites) => tell_lits(opposites.items(), told),
+        Err(NoMemory) => told.lack(),
+    }
 }
 
-fn opposites_of(alloc: Global, lits: &Lits) -> Result<Lits, NoMemory> {
+fn opposites_of(alloc: Global, list: &[u8]) -> Result<Lits, NoMemory> {
+    let clause = clause_in(alloc, list)?;
     let mut opposites = Lits::new(alloc);
-    for lit in lits.items() {
+    for lit in Lits::of(alloc, clause.items())?.items() {
         opposites.add(lit.opposite())?;
     }
-    Ok(opposites)
+    opposites.copy(alloc)
 }
 
-/// Tells whether a literal is on, where it is said of each.
-pub(crate) fn is_marked(alloc: Global, given: &Given, told: &mut Telling) -> Result<(), NoMemory> {
-    let on = bits_in(alloc, given.bytes(0))?;
-    told.yes_no(is_on(on.items(), Lit(u32_in(given.bytes(1)))));
-    Ok(())
+// Whether a literal is on, where it is said of each.
+fn is_marked(alloc: Global, given: &Given, told: &mut Telling) {
+    match bits_in(alloc, given.bytes(0)) {
+        Ok(on) => told.yes_no(is_on(on.items(), Lit(u32_in(given.bytes(1))))),
+        Err(NoMemory) => told.lack(),
+    }
 }

@@ -3,10 +3,10 @@ ghost use Rattle.std.specs.Prelude.{◌≡◌, ◌<◌, length, IsSome};
 ghost use Rattle.gv_entry.specs.Queries.{class_in};
 ghost use Rattle.gv_facts.specs.declared.kinds.Class.TheVariants.{Rdepend};
 
-use crate::given::Given;
-use crate::made::{add_member, bare_profile, member_of, rules};
+use crate::given::{Given, cut_at};
+use crate::made::{Made, add_member, bare_profile, member_of, rules};
 use crate::written::Telling;
-use gv_base::{Ledger, NoMemory, Steps, Text, words_of};
+use gv_base::{Ledger, NoMemory, Steps, Text};
 use gv_entry::{Body, class_in};
 use gv_facts::{Class, Level, Pkg, Pkgs, Profile};
 use gv_logic::{Bits, Gates, Lit, value, values};
@@ -26,20 +26,16 @@ pub(crate) struct Case {
 
 /// Tells the answer to a call of this library, if it is one. The parts are the EAPI, the flags of app/p-1, those of x/y-1 or
 /// `-` where it isn't there, rules, REQUIRED_USE and RDEPEND; then the bits, and how often x/y-1 is there besides.
-pub(crate) fn answer(
-    alloc: Global,
-    call: &str,
-    given: &Given,
-    told: &mut Telling,
-) -> Result<bool, NoMemory> {
+pub(crate) fn answer(alloc: Global, call: &str, given: &Given, told: &mut Telling) -> bool {
     let Some(call) = call_of(call) else {
-        return Ok(false);
+        return false;
     };
-    match case_of(alloc, given)? {
-        Some(case) => over_steps::<Brand>(alloc, Blank::new(2), call, given, &case, told)?,
-        None => told.say("no packages"),
+    match case_of(alloc, given) {
+        Ok(Some(case)) => over_steps::<Brand>(alloc, Blank::new(2), call, given, case, told),
+        Ok(None) => told.say("no packages"),
+        Err(NoMemory) => told.lack(),
     }
-    Ok(true)
+    true
 }
 
 #[derive(Clone, Copy, PartialEq, Eq)]
@@ -60,40 +56,39 @@ fn call_of(call: &str) -> Option<Call> {
     }
 }
 
-// The lines of a key and its value.
-fn line(lines: &mut Telling, key: &[u8], value: &[u8]) {
-    lines.add(key);
-    lines.add(value);
-    lines.add(b"\n");
-}
-
 fn parent_lines(alloc: Global, given: &Given) -> Telling {
-    let mut lines = Telling::new(alloc);
-    lines.add(b"SLOT=0\nKEYWORDS=amd64\n");
-    line(&mut lines, b"EAPI=", given.bytes(0));
-    line(&mut lines, b"IUSE=", given.bytes(1));
-    line(&mut lines, b"REQUIRED_USE=", given.bytes(4));
-    line(&mut lines, b"RDEPEND=", given.bytes(5));
-    lines
+    Telling::of(
+        alloc,
+        &[
+            b"SLOT=0\nKEYWORDS=amd64\nEAPI=",
+            given.bytes(0),
+            b"\nIUSE=",
+            given.bytes(1),
+            b"\nREQUIRED_USE=",
+            given.bytes(4),
+            b"\nRDEPEND=",
+            given.bytes(5),
+        ],
+    )
 }
 
 // Adds app/p-1, and answers its expressions if it is a package.
 fn add_parent(alloc: Global, given: &Given, pkgs: &mut Pkgs) -> Result<Option<Body>, NoMemory> {
     let lines = parent_lines(alloc, given);
     match member_of(alloc, b"app", b"p-1", lines.bytes()?)? {
-        Some(made) => {
-            let body = made.body.copy(alloc)?;
-            pkgs.add(made.pkg)?;
-            Ok(Some(body))
-        }
+        Some(made) => Ok(Some(add_made(alloc, made, pkgs)?)),
         None => Ok(None),
     }
 }
 
+fn add_made(alloc: Global, made: Made, pkgs: &mut Pkgs) -> Result<Body, NoMemory> {
+    let Made { pkg, body } = made;
+    pkgs.add(pkg)?;
+    body.copy(alloc)
+}
+
 fn add_other(alloc: Global, pkgs: &mut Pkgs, name: &[u8], iuse: &[u8]) -> Result<(), NoMemory> {
-    let mut lines = Telling::new(alloc);
-    lines.add(b"EAPI=8\nSLOT=0\nKEYWORDS=amd64\n");
-    line(&mut lines, b"IUSE=", iuse);
+    let lines = Telling::of(alloc, &[b"EAPI=8\nSLOT=0\nKEYWORDS=amd64\nIUSE=", iuse]);
     add_member(alloc, b"x", name, lines.bytes()?, pkgs)
 }
 
@@ -108,22 +103,10 @@ fn add_same(alloc: Global, pkgs: &mut Pkgs, given: &Given) -> Result<(), NoMemor
 }
 
 // A package by its name and its flags.
-fn add_named(alloc: Global, pkgs: &mut Pkgs, words: &[Text]) -> Result<(), NoMemory> {
-    let [name, flags @ ..] = words else {
-        return Ok(());
-    };
-    let mut iuse = Telling::new(alloc);
-    for flag in flags {
-        iuse.add(b" ");
-        iuse.add(flag.bytes());
-    }
-    add_other(alloc, pkgs, name.bytes(), iuse.bytes()?)
-}
-
 fn add_others(alloc: Global, pkgs: &mut Pkgs, parts: &[Text]) -> Result<(), NoMemory> {
     for part in parts {
-        let words = words_of(alloc, part.bytes())?;
-        add_named(alloc, pkgs, words.items())?;
+        let (name, flags) = cut_at(part.bytes(), b' ');
+        add_other(alloc, pkgs, name, flags)?;
     }
     Ok(())
 }
@@ -164,92 +147,96 @@ fn over_steps<L: Ledger>(
     blank: Blank,
     call: Call,
     given: &Given,
-    case: &Case,
+    case: Case,
     told: &mut Telling,
-) -> Result<(), NoMemory>
+)
     requires name { blank.name ≡ L.name }
     requires parts { blank.parts ≡ L.parts }
     requires two { blank.parts ≡ 2 }
 {
     let mut steps = Steps::<L>::open(blank);
-    match call {
-        Call::Tables => tables(alloc, case, &mut steps, told),
-        Call::Allowed => match allowed(alloc, case, &mut steps, told)? {
-            Some(query) => of_query(alloc, call, &query, given, told),
-            None => Ok(()),
-        },
-        _ => match failing(alloc, case, &mut steps, told)? {
-            Some(query) => of_query(alloc, call, &query, given, told),
-            None => Ok(()),
-        },
-    }
+    over_case(alloc, call, given, &case, &mut steps, told);
 }
 
-fn of_query(
+fn over_case<L: Ledger>(
     alloc: Global,
     call: Call,
-    query: &Query,
     given: &Given,
-    told: &mut Telling,
-) -> Result<(), NoMemory> {
-    if call == Call::Preferring {
-        preferred(query, told);
-        return Ok(());
-    }
-    at_bits(alloc, query, given.bytes(6), told)
-}
-
-// The query, or none and why.
-fn asked(
-    alloc: Global,
-    found: Result<Query, LowerFault>,
-    told: &mut Telling,
-) -> Result<Option<Query>, NoMemory> {
-    match found {
-        Ok(query) => return Ok(Some(query.copy(alloc)?)),
-        Err(LowerFault::Flags { count }) => {
-            told.number(u64::from(count));
-            told.say(" flags");
-        }
-        Err(LowerFault::Weight { count }) => {
-            told.say("weight ");
-            told.number(u64::from(count));
-        }
-        Err(LowerFault::NoMemory) => return Err(NoMemory),
-    }
-    Ok(None)
-}
-
-fn failing<L: Ledger>(
-    alloc: Global,
     case: &Case,
     steps: &mut Steps<L>,
     told: &mut Telling,
-) -> Result<Option<Query>, NoMemory> {
+) {
+    if call == Call::Tables {
+        return tables(alloc, case, steps, told);
+    }
+    if let Some(query) = query_of(alloc, call == Call::Allowed, case, steps, told) {
+        of_query(alloc, call, query, given, told);
+    }
+}
+
+fn of_query(alloc: Global, call: Call, query: Query, given: &Given, told: &mut Telling) {
+    if call == Call::Preferring {
+        preferred(&query, told);
+    } else {
+        at_bits(alloc, &query, given.bytes(6), told);
+    }
+}
+
+// The query about REQUIRED_USE or RDEPEND, or none and why.
+fn query_of<L: Ledger>(
+    alloc: Global,
+    is_allowed: bool,
+    case: &Case,
+    steps: &mut Steps<L>,
+    told: &mut Telling,
+) -> Option<Query> {
     if case.pkgs.items().is_empty() || case.body.required.is_none() {
         told.say("broken");
-        return Ok(None);
+        return None;
+    }
+    if is_allowed {
+        let found = allowed_among(alloc, &case.pkgs, &case.profile, &case.body, steps);
+        return asked(alloc, found, told);
     }
     if class_in(&case.body, Class::Rdepend).is_none() {
         told.say("broken");
-        return Ok(None);
+        return None;
     }
     let found = failing_among(alloc, &case.pkgs, &case.profile, &case.body, steps);
     asked(alloc, found, told)
 }
 
-fn allowed<L: Ledger>(
-    alloc: Global,
-    case: &Case,
-    steps: &mut Steps<L>,
-    told: &mut Telling,
-) -> Result<Option<Query>, NoMemory> {
-    if case.pkgs.items().is_empty() || case.body.required.is_none() {
-        told.say("broken");
-        return Ok(None);
+// The query, or none and why.
+fn asked(alloc: Global, found: Result<Query, LowerFault>, told: &mut Telling) -> Option<Query> {
+    match found {
+        Ok(query) => copied(alloc, query, told),
+        Err(fault) => {
+            refused(fault, told);
+            None
+        }
     }
-    let found = allowed_among(alloc, &case.pkgs, &case.profile, &case.body, steps);
-    asked(alloc, found, told)
+}
+
+fn copied(alloc: Global, query: Query, told: &mut Telling) -> Option<Query> {
+    let copy = query.copy(alloc).ok();
+    if copy.is_none() {
+        told.lack();
+    }
+    copy
+}
+
+fn refused(fault: LowerFault, told: &mut Telling) {
+    match fault {
+        LowerFault::Flags { count } => {
+            told.number(u64::from(count));
+            told.say(" flags");
+        }
+        LowerFault::Weight { count } => {
+            told.say("weight ");
+            told.number(u64::from(count));
+        }
+        LowerFault::NoMemory => told.lack(),
+    }
 }
 
 fn allowed_among<L: Ledger>(
@@ -294,21 +281,20 @@ fn preferred(query: &Query, told: &mut Telling) {
 }
 
 // Whether the gates are on where the inputs are these digits.
-fn at_bits(
-    alloc: Global,
-    query: &Query,
-    digits: &[u8],
-    told: &mut Telling,
-) -> Result<(), NoMemory> {
+fn at_bits(alloc: Global, query: &Query, digits: &[u8], told: &mut Telling) {
+    match is_on_at(alloc, &query.gates, digits) {
+        Ok(Some(yes)) => told.yes_no(yes),
+        Ok(None) => told.say("other inputs"),
+        Err(NoMemory) => told.lack(),
+    }
+}
+
+fn is_on_at(alloc: Global, gates: &Gates, digits: &[u8]) -> Result<Option<bool>, NoMemory> {
     let mut bits = Bits::new(alloc);
     for digit in digits {
         bits.add(*digit == b'1')?;
     }
-    match is_on(alloc, &query.gates, &bits)? {
-        Some(yes) => told.yes_no(yes),
-        None => told.say("other inputs"),
-    }
-    Ok(())
+    is_on(alloc, gates, &bits)
 }
 
 fn is_on(alloc: Global, gates: &Gates, bits: &Bits) -> Result<Option<bool>, NoMemory> {
@@ -337,73 +323,77 @@ fn bits_of(alloc: Global, query: &Query, assignment: u32) -> Result<Bits, NoMemo
 
 // At all assignments of f0 to f5, of which the last has all of them on: where the query of REQUIRED_USE is on, where the one
 // of RDEPEND is, and where each literal of its top items.
-fn tables<L: Ledger>(
-    alloc: Global,
-    case: &Case,
-    steps: &mut Steps<L>,
-    told: &mut Telling,
-) -> Result<(), NoMemory> {
+fn tables<L: Ledger>(alloc: Global, case: &Case, steps: &mut Steps<L>, told: &mut Telling) {
     let mut why = Telling::new(alloc);
-    let Some(found) = allowed(alloc, case, steps, &mut why)? else {
-        told.say("refused");
-        return Ok(());
+    let Some(allowed) = query_of(alloc, true, case, steps, &mut why) else {
+        return refused_for(&why, told);
     };
-    match failing(alloc, case, steps, &mut why)? {
-        Some(query) => both_tables(alloc, &found, &query, told)?,
-        None => told.say("refused"),
+    match query_of(alloc, false, case, steps, &mut why) {
+        Some(failing) => both_tables(alloc, &allowed, failing, told),
+        None => refused_for(&why, told),
     }
-    Ok(())
 }
 
-fn both_tables(
-    alloc: Global,
-    allowed: &Query,
-    failing: &Query,
-    told: &mut Telling,
-) -> Result<(), NoMemory> {
-    table(alloc, allowed, told)?;
+fn refused_for(why: &Telling, told: &mut Telling) {
+    match why.bytes() {
+        Ok(_) => told.say("refused"),
+        Err(NoMemory) => told.lack(),
+    }
+}
+
+// What of a query a table is about.
+#[derive(Clone, Copy)]
+enum Part {
+    All,
+    Item(Lit),
+}
+
+fn both_tables(alloc: Global, allowed: &Query, failing: Query, told: &mut Telling) {
+    table(alloc, allowed, &Part::All, told);
     told.add(b" ");
-    table(alloc, failing, told)?;
+    table(alloc, &failing, &Part::All, told);
     for lit in failing.items.items() {
         told.add(b" ");
-        item_table(alloc, failing, *lit, told)?;
+        table(alloc, &failing, &Part::Item(*lit), told);
     }
-    Ok(())
 }
 
-fn table(alloc: Global, query: &Query, told: &mut Telling) -> Result<(), NoMemory> {
+// Where the query is on, or one of its literals.
+fn table(alloc: Global, query: &Query, part: &Part, told: &mut Telling) {
+    match on_in(alloc, query, part) {
+        Ok(on) => told.formatted(format!(in alloc; "{on:016x}")),
+        Err(NoMemory) => told.lack(),
+    }
+}
+
+fn on_in(alloc: Global, query: &Query, part: &Part) -> Result<u64, NoMemory> {
     let mut on: u64 = 0;
     for assignment in 0..64u32 {
-        if is_on_at(alloc, query, assignment)? {
+        if is_part_on(alloc, query, assignment, part)? {
             on |= 1u64 << assignment;
         }
     }
-    told.formatted(format!(in alloc; "{on:016x}"));
-    Ok(())
+    Ok(on)
 }
 
-fn is_on_at(alloc: Global, query: &Query, assignment: u32) -> Result<bool, NoMemory> {
+fn is_part_on(
+    alloc: Global,
+    query: &Query,
+    assignment: u32,
+    part: &Part,
+) -> Result<bool, NoMemory> {
     let bits = bits_of(alloc, query, assignment)?;
-    Ok(is_on(alloc, &query.gates, &bits)? == Some(true))
-}
-
-fn item_table(alloc: Global, query: &Query, lit: Lit, told: &mut Telling) -> Result<(), NoMemory> {
-    let mut on: u64 = 0;
-    for assignment in 0..64u32 {
-        if is_item_on(alloc, query, lit, assignment)? {
-            on |= 1u64 << assignment;
-        }
+    match *part {
+        Part::Item(lit) => is_item_on(alloc, &query.gates, &bits, lit),
+        Part::All => Ok(is_on(alloc, &query.gates, &bits)? == Some(true)),
     }
-    told.formatted(format!(in alloc; "{on:016x}"));
-    Ok(())
 }
 
-fn is_item_on(alloc: Global, query: &Query, lit: Lit, assignment: u32) -> Result<bool, NoMemory> {
-    let bits = bits_of(alloc, query, assignment)?;
-    if bits.items().len() != query.gates.inputs() as usize {
+fn is_item_on(alloc: Global, gates: &Gates, bits: &Bits, lit: Lit) -> Result<bool, NoMemory> {
+    if bits.items().len() != gates.inputs() as usize {
         return Ok(false);
     }
-    let places = values(alloc, &query.gates, &bits)?;
+    let places = values(alloc, gates, bits)?;
     let place = places.items().get((lit.0 / 2) as usize);
     Ok(matches!(place, Some(is_on) if *is_on != (lit.0 % 2 == 1)))
 }

@@ -34,7 +34,11 @@ pub(crate) fn entry(
 fn copied(alloc: Global, category: &Text, pf: &Text, lines: &[u8]) -> Result<Entry, NoMemory>
     requires { IsSome (split_pf pf.now) }
 {
-    read_entry(alloc, category, pf, lines)?.copy(alloc)
+    copy_of(alloc, read_entry(alloc, category, pf, lines)?)
+}
+
+fn copy_of(alloc: Global, entry: Entry) -> Result<Entry, NoMemory> {
+    entry.copy(alloc)
 }
 
 /// The package of such an entry, if it is one.

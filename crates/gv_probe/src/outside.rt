@@ -20,57 +20,32 @@ pub(crate) struct Outside {
     path: Telling,
     in_store: bool,
     reports: Texts,
-    pub store: Files,
-    pub before: Files,
-    now: Numbers,
+    store: Files,
+    before: Files,
+    numbers: Files,
+    keeps: bool,
     input: Telling,
 }
 
-#[derive(Clone, Copy)]
-struct Numbers {
-    out: u32,
-    err: u32,
-    tree: u32,
-    store: u32,
-    input: u32,
-    most: u32,
-    pieces: u32,
-    keeps: bool,
-}
-
-const NONE: Numbers = Numbers {
-    out: 0,
-    err: 0,
-    tree: 0,
-    store: 0,
-    input: 0,
-    most: 4096,
-    pieces: 4096,
-    keeps: false,
-};
-
-fn calls(alloc: Global, number: u32) -> Result<Calls, NoMemory> {
+/// The call of this number.
+pub(crate) fn calls_of(alloc: Global, number: u32) -> Result<Calls, NoMemory> {
     let mut calls = Calls::new(alloc);
     calls.add(number)?;
     Ok(calls)
 }
 
-fn is_mark(byte: u8) -> bool {
-    matches!(byte, b'@' | b'|' | b'.' | b'*' | b'&' | b'%' | b'-')
-}
-
-fn append(
-    alloc: Global,
-    files: &mut Files,
-    path: &[u8],
-    more: &[u8],
-    end: &[u8],
-) -> Result<(), NoMemory> {
+fn append(alloc: Global, files: &mut Files, path: &[u8], more: &Telling, told: &mut Telling) {
     let mut bytes = Telling::new(alloc);
     bytes.add(files.get(path).unwrap_or(&[]));
-    bytes.add(more);
-    bytes.add(end);
-    files.put(path, bytes.bytes()?)
+    bytes.all_of(more);
+    put(files, path, &bytes, told);
+}
+
+fn put(files: &mut Files, path: &[u8], bytes: &Telling, told: &mut Telling) {
+    match bytes.bytes() {
+        Ok(bytes) => told.done(files.put(path, bytes)),
+        Err(NoMemory) => told.lack(),
+    }
 }
 
 // The bytes with a number in place of each `#`, and the next one in place of each `+`.
@@ -95,52 +70,60 @@ impl Outside {
             reports: Texts::new(alloc),
             store: Files::new(alloc),
             before: Files::new(alloc),
-            now: NONE,
+            numbers: Files::new(alloc),
+            keeps: false,
             input: Telling::new(alloc),
         }
     }
 
-    /// Takes a line, and answers whether it was one of the outside.
-    pub(crate) fn takes(&mut self, alloc: Global, line: &[u8]) -> Result<bool, NoMemory> {
-        let Some((mark, more)) = line.split_first() else {
-            return Ok(false);
-        };
-        if *mark == b'<' {
-            return self.takes_input(alloc, more);
-        }
-        if is_mark(*mark) {
-            self.take_marked(alloc, *mark, more)?;
-            return Ok(true);
-        }
-        self.takes_words(alloc, std::str::from_utf8(line).unwrap_or(""))
-    }
-
-    fn take_marked(&mut self, alloc: Global, mark: u8, more: &[u8]) -> Result<(), NoMemory> {
-        match mark {
-            b'@' => self.begin(more),
-            b'|' => self.add(alloc, more, b"\n"),
-            b'.' => self.add(alloc, more, b""),
-            b'*' => self.add_written(alloc, more),
-            b'&' => self.reports.add(Text::of(alloc, more)?),
-            b'%' => self.begin_entry(alloc, more),
-            _ => {
-                self.files.cut(more);
-                Ok(())
+    /// Takes a line, and answers whether it was one of the outside. What wants memory is told.
+    pub(crate) fn takes(&mut self, alloc: Global, line: &[u8], told: &mut Telling) -> bool {
+        match line.split_first() {
+            None => false,
+            Some((b'<', more)) => self.takes_input(alloc, more, told),
+            Some((mark, more)) => {
+                self.takes_marked(alloc, *mark, more, told)
+                    || self.takes_words(alloc, std::str::from_utf8(line).unwrap_or(""), told)
             }
         }
     }
 
-    // What stands behind the mark of the input.
-    fn takes_input(&mut self, alloc: Global, line: &[u8]) -> Result<bool, NoMemory> {
-        let Some((mark, more)) = line.split_first() else {
-            return Ok(false);
-        };
-        match *mark {
-            b'*' => self.input.add(read_part(alloc, more)?.bytes()),
-            b' ' => self.take_line(more),
-            _ => return Ok(false),
+    fn takes_marked(&mut self, alloc: Global, mark: u8, more: &[u8], told: &mut Telling) -> bool {
+        match mark {
+            b'@' => self.begin(more, told),
+            b'|' => self.add(alloc, more, b"\n", told),
+            b'.' => self.add(alloc, more, b"", told),
+            b'*' => self.add_written(alloc, more, told),
+            b'&' => self.add_report(alloc, more, told),
+            b'%' => self.begin_entry(alloc, more, told),
+            b'-' => self.files.cut(more),
+            _ => return false,
         }
-        Ok(true)
+        true
+    }
+
+    fn add_report(&mut self, alloc: Global, line: &[u8], told: &mut Telling) {
+        match Text::of(alloc, line) {
+            Ok(line) => told.done(self.reports.add(line)),
+            Err(NoMemory) => told.lack(),
+        }
+    }
+
+    // What stands behind the mark of the input.
+    fn takes_input(&mut self, alloc: Global, line: &[u8], told: &mut Telling) -> bool {
+        match line.split_first() {
+            Some((b'*', more)) => self.take_written(alloc, more, told),
+            Some((b' ', more)) => self.take_line(more),
+            _ => return false,
+        }
+        true
+    }
+
+    fn take_written(&mut self, alloc: Global, part: &[u8], told: &mut Telling) {
+        match read_part(alloc, part) {
+            Ok(bytes) => self.input.add(bytes.bytes()),
+            Err(NoMemory) => told.lack(),
+        }
     }
 
     fn take_line(&mut self, line: &[u8]) {
@@ -153,74 +136,89 @@ impl Outside {
         }
     }
 
-    fn takes_words(&mut self, alloc: Global, line: &str) -> Result<bool, NoMemory> {
+    fn takes_words(&mut self, alloc: Global, line: &str, told: &mut Telling) -> bool {
         let (word, more) = line.split_once(' ').unwrap_or((line, ""));
         match word {
             "new" => *self = Outside::new(alloc),
-            "keep" => self.now.keeps = true,
-            "set" => self.set(more),
-            "many" => self.put_many(alloc, more)?,
-            "store" => self.begin_stored(alloc, more.as_bytes())?,
-            _ => return Ok(false),
+            "keep" => self.keeps = true,
+            "set" => self.set(more, told),
+            "many" => self.put_many(alloc, more, told),
+            "store" => self.begin_stored(alloc, more.as_bytes(), told),
+            _ => return false,
         }
-        Ok(true)
+        true
     }
 
-    fn begin(&mut self, path: &[u8]) -> Result<(), NoMemory> {
+    fn begin(&mut self, path: &[u8], told: &mut Telling) {
         self.path.clear();
         self.path.add(path);
         self.in_store = false;
-        self.files.put(path, b"")
+        told.done(self.files.put(path, b""));
     }
 
     // The store is empty but for what is put into it, unless it is kept.
-    fn begin_stored(&mut self, alloc: Global, path: &[u8]) -> Result<(), NoMemory> {
-        if !self.now.keeps {
+    fn begin_stored(&mut self, alloc: Global, path: &[u8], told: &mut Telling) {
+        if !self.keeps {
             self.store = Files::new(alloc);
-            self.now.keeps = true;
+            self.keeps = true;
         }
         self.path.clear();
         self.path.add(path);
         self.in_store = true;
-        self.store.put(path, b"")
+        told.done(self.store.put(path, b""));
     }
 
-    fn add(&mut self, alloc: Global, more: &[u8], end: &[u8]) -> Result<(), NoMemory> {
-        if self.in_store {
-            append(alloc, &mut self.store, self.path.bytes()?, more, end)
-        } else {
-            append(alloc, &mut self.files, self.path.bytes()?, more, end)
+    fn add(&mut self, alloc: Global, more: &[u8], end: &[u8], told: &mut Telling) {
+        let mut bytes = Telling::new(alloc);
+        bytes.add(more);
+        bytes.add(end);
+        match self.path.bytes() {
+            Ok(path) if self.in_store => append(alloc, &mut self.store, path, &bytes, told),
+            Ok(path) => append(alloc, &mut self.files, path, &bytes, told),
+            Err(NoMemory) => told.lack(),
         }
     }
 
-    fn add_written(&mut self, alloc: Global, more: &[u8]) -> Result<(), NoMemory> {
-        let bytes = read_part(alloc, more)?;
-        self.add(alloc, bytes.bytes(), b"")
+    fn add_written(&mut self, alloc: Global, more: &[u8], told: &mut Telling) {
+        match read_part(alloc, more) {
+            Ok(bytes) => self.add(alloc, bytes.bytes(), b"", told),
+            Err(NoMemory) => told.lack(),
+        }
     }
 
-    fn put_many(&mut self, alloc: Global, parts: &str) -> Result<(), NoMemory> {
-        let given = given_in(alloc, parts)?;
+    fn put_many(&mut self, alloc: Global, parts: &str, told: &mut Telling) {
+        let Ok(given) = given_in(alloc, parts) else {
+            return told.lack();
+        };
         let first = given.number(0);
         for number in first..first.saturating_add(given.number(1)) {
-            self.put_numbered(alloc, &given, number)?;
+            self.put_numbered(alloc, &given, number, told);
         }
-        Ok(())
     }
 
-    fn put_numbered(&mut self, alloc: Global, given: &Given, number: u64) -> Result<(), NoMemory> {
+    fn put_numbered(&mut self, alloc: Global, given: &Given, number: u64, told: &mut Telling) {
         let path = numbered(alloc, given.bytes(2), number);
         let bytes = numbered(alloc, given.bytes(3), number);
-        self.files.put(path.bytes()?, bytes.bytes()?)
+        match path.bytes() {
+            Ok(path) => put(&mut self.files, path, &bytes, told),
+            Err(NoMemory) => told.lack(),
+        }
     }
 
-    fn begin_entry(&mut self, alloc: Global, words: &[u8]) -> Result<(), NoMemory> {
-        let words = words_of(alloc, words)?;
-        let [category, name, version] = words.items() else {
-            return Ok(());
+    fn begin_entry(&mut self, alloc: Global, words: &[u8], told: &mut Telling) {
+        let Ok(words) = words_of(alloc, words) else {
+            return told.lack();
         };
-        self.put_ebuild(alloc, category.bytes(), name.bytes(), version.bytes())?;
-        self.begin_cached(alloc, category.bytes(), name.bytes(), version.bytes())?;
-        self.add(alloc, b"_md5_=d41d8cd98f00b204e9800998ecf8427e", b"\n")
+        if let [category, name, version] = words.items() {
+            self.put_ebuild(alloc, category.bytes(), name.bytes(), version.bytes(), told);
+            self.begin_cached(alloc, category.bytes(), name.bytes(), version.bytes(), told);
+            self.add(
+                alloc,
+                b"_md5_=d41d8cd98f00b204e9800998ecf8427e",
+                b"\n",
+                told,
+            );
+        }
     }
 
     fn put_ebuild(
@@ -229,17 +227,16 @@ impl Outside {
         category: &[u8],
         name: &[u8],
         version: &[u8],
-    ) -> Result<(), NoMemory> {
-        let mut path = Telling::new(alloc);
-        path.add(category);
-        path.add(b"/");
-        path.add(name);
-        path.add(b"/");
-        path.add(name);
-        path.add(b"-");
-        path.add(version);
-        path.add(b".ebuild");
-        self.files.put(path.bytes()?, b"")
+        told: &mut Telling,
+    ) {
+        let path = Telling::of(
+            alloc,
+            &[category, b"/", name, b"/", name, b"-", version, b".ebuild"],
+        );
+        match path.bytes() {
+            Ok(path) => told.done(self.files.put(path, b"")),
+            Err(NoMemory) => told.lack(),
+        }
     }
 
     fn begin_cached(
@@ -248,30 +245,28 @@ impl Outside {
         category: &[u8],
         name: &[u8],
         version: &[u8],
-    ) -> Result<(), NoMemory> {
-        let mut path = Telling::new(alloc);
-        path.add(b"metadata/md5-cache/");
-        path.add(category);
-        path.add(b"/");
-        path.add(name);
-        path.add(b"-");
-        path.add(version);
-        self.begin(path.bytes()?)
+        told: &mut Telling,
+    ) {
+        let path = Telling::of(
+            alloc,
+            &[b"metadata/md5-cache/", category, b"/", name, b"-", version],
+        );
+        match path.bytes() {
+            Ok(path) => self.begin(path, told),
+            Err(NoMemory) => told.lack(),
+        }
     }
 
-    fn set(&mut self, words: &str) {
-        let number = number_in(words.as_bytes()).min(1_000_000) as u32;
-        let (name, _) = words.split_once(' ').unwrap_or((words, ""));
-        let now = &mut self.now;
-        match name {
-            "out" => now.out = number,
-            "err" => now.err = number,
-            "tree" => now.tree = number,
-            "store" => now.store = number,
-            "input" => now.input = number,
-            "most" => now.most = number,
-            "pieces" => now.pieces = number,
-            _ => {}
+    fn set(&mut self, words: &str, told: &mut Telling) {
+        let (name, number) = words.split_once(' ').unwrap_or((words, ""));
+        told.done(self.numbers.put(name.as_bytes(), number.as_bytes()));
+    }
+
+    // The number of a name, and another one where it isn't set.
+    fn number(&self, name: &[u8], unset: u32) -> u32 {
+        match self.numbers.get(name) {
+            Some(digits) => number_in(digits).min(1_000_000) as u32,
+            None => unset,
         }
     }
 
@@ -305,9 +300,22 @@ impl Outside {
         }
     }
 
+    /// Keeps what the store has before a run.
+    pub(crate) fn begin_run(&mut self, alloc: Global, store: &MemStore) -> Result<(), NoMemory> {
+        self.before = store.files().copy(alloc)?;
+        Ok(())
+    }
+
+    /// Keeps what it has behind it.
+    pub(crate) fn end_run(&mut self, alloc: Global, store: &MemStore) -> Result<(), NoMemory> {
+        self.store = store.files().copy(alloc)?;
+        Ok(())
+    }
+
     /// Forgets what is of one run alone.
-    pub(crate) fn forget(&mut self) {
-        self.now = NONE;
+    pub(crate) fn forget(&mut self, alloc: Global) {
+        self.numbers = Files::new(alloc);
+        self.keeps = false;
         self.input.clear();
     }
 
@@ -328,17 +336,22 @@ impl Outside {
     }
 
     pub(crate) fn tree(&self, alloc: Global) -> Result<MemTree, NoMemory> {
-        let calls = calls(alloc, self.now.tree)?;
+        let calls = self.calls(alloc, b"tree")?;
         Ok(MemTree::new(self.files.copy(alloc)?, calls))
     }
 
     pub(crate) fn store(&self, alloc: Global) -> Result<MemStore, NoMemory> {
-        let calls = calls(alloc, self.now.store)?;
+        let calls = self.calls(alloc, b"store")?;
         Ok(MemStore::new(self.kept(alloc)?, calls))
     }
 
+    /// What the store has at a path behind the last run.
+    pub(crate) fn kept_at(&self, path: &[u8]) -> &[u8] {
+        self.store.get(path).unwrap_or(&[])
+    }
+
     fn kept(&self, alloc: Global) -> Result<Files, NoMemory> {
-        if self.now.keeps {
+        if self.keeps {
             self.store.copy(alloc)
         } else {
             Ok(Files::new(alloc))
@@ -346,16 +359,19 @@ impl Outside {
     }
 
     pub(crate) fn input(&self, alloc: Global) -> Result<MemSource, NoMemory> {
-        let calls = calls(alloc, self.now.input)?;
+        let calls = self.calls(alloc, b"input")?;
         let input = Text::of(alloc, self.input.bytes()?)?;
-        Ok(MemSource::new(input, self.now.pieces.max(1), calls))
+        Ok(MemSource::new(input, self.number(b"pieces", 4096).max(1), calls))
     }
 
-    pub(crate) fn out(&self, alloc: Global) -> Result<MemSink, NoMemory> {
-        Ok(MemSink::new(alloc, self.now.most.max(1), calls(alloc, self.now.out)?))
+    /// The sink with this name.
+    pub(crate) fn sink(&self, alloc: Global, name: &[u8]) -> Result<MemSink, NoMemory> {
+        let calls = self.calls(alloc, name)?;
+        Ok(MemSink::new(alloc, self.number(b"most", 4096).max(1), calls))
     }
 
-    pub(crate) fn err(&self, alloc: Global) -> Result<MemSink, NoMemory> {
-        Ok(MemSink::new(alloc, self.now.most.max(1), calls(alloc, self.now.err)?))
+    // The call of an object with this name that fails.
+    fn calls(&self, alloc: Global, name: &[u8]) -> Result<Calls, NoMemory> {
+        calls_of(alloc, self.number(name, 0))
     }
 }

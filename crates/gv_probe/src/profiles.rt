@@ -10,8 +10,8 @@ use crate::loading::{fault, tell};
 use crate::outside::Outside;
 use crate::written::Telling;
 use gv_atom::print_atom;
-use gv_base::{NoMemory, Text, Texts};
-use gv_facts::{Effect, Profile, Rule, Status};
+use gv_base::{MemTree, NoMemory, Text, Texts};
+use gv_facts::{Effect, Pkg, Pkgs, Profile, Profiles, Rule, Status};
 use gv_load::{Loaded, Repo, load, load_counted};
 use gv_reload::{EntryEdits, Reread, is_entry, reread_entries};
 use std::alloc::Global;
@@ -52,14 +52,22 @@ fn at(
 }
 
 fn package(alloc: Global, repo: &Repo, place: usize, told: &mut Telling) -> Result<(), NoMemory> {
-    match repo.pkgs.copy(alloc)?.items().get(place) {
+    package_in(alloc, repo.pkgs.copy(alloc)?, place, told)
+}
+
+fn package_in(alloc: Global, pkgs: Pkgs, place: usize, told: &mut Telling) -> Result<(), NoMemory> {
+    match pkgs.items().get(place) {
         Some(pkg) => {
             pkg.tell();
-            parts(&pkg.copy(alloc)?, told);
+            tell_parts(pkg.copy(alloc)?, told);
         }
         None => told.say("none"),
     }
     Ok(())
+}
+
+fn tell_parts(pkg: Pkg, told: &mut Telling) {
+    parts(&pkg, told);
 }
 
 fn profile_at(
@@ -68,11 +76,24 @@ fn profile_at(
     place: usize,
     told: &mut Telling,
 ) -> Result<(), NoMemory> {
-    match repo.profiles.copy(alloc)?.items().get(place) {
-        Some(found) => profile(alloc, &found.copy(alloc)?, told)?,
+    profile_in(alloc, repo.profiles.copy(alloc)?, place, told)
+}
+
+fn profile_in(
+    alloc: Global,
+    profiles: Profiles,
+    place: usize,
+    told: &mut Telling,
+) -> Result<(), NoMemory> {
+    match profiles.items().get(place) {
+        Some(found) => tell_profile(alloc, found.copy(alloc)?, told)?,
         None => told.say("none"),
     }
     Ok(())
+}
+
+fn tell_profile(alloc: Global, found: Profile, told: &mut Telling) -> Result<(), NoMemory> {
+    profile(alloc, &found, told)
 }
 
 /// The words of a variable, where it has some.
@@ -128,9 +149,18 @@ fn add_head(profile: &Profile, told: &mut Telling) {
 fn profile(alloc: Global, profile: &Profile, told: &mut Telling) -> Result<(), NoMemory> {
     add_head(profile, told);
     add_lists(alloc, profile, told)?;
+    add_rules(alloc, profile, told)?;
+    add_masks(alloc, profile, told)
+}
+
+fn add_rules(alloc: Global, profile: &Profile, told: &mut Telling) -> Result<(), NoMemory> {
     for rule in profile.rules.items() {
         add_rule(alloc, &rule.copy(alloc)?, told)?;
     }
+    Ok(())
+}
+
+fn add_masks(alloc: Global, profile: &Profile, told: &mut Telling) -> Result<(), NoMemory> {
     for mask in profile.masks.items() {
         told.add(mask.copy(alloc)?.text.bytes());
         told.say("; ");
@@ -152,46 +182,78 @@ fn add_lists(alloc: Global, profile: &Profile, told: &mut Telling) -> Result<(),
 
 /// What comes of reading the entry at a path anew, of the first part, once the bytes of the second are put there: the
 /// repository, and how many files a load finds at most.
-pub(crate) fn reread(
-    alloc: Global,
-    given: &Given,
-    outside: &Outside,
-    told: &mut Telling,
-) -> Result<(), NoMemory> {
-    let mut tree = outside.tree(alloc)?;
+pub(crate) fn reread(alloc: Global, given: &Given, outside: &Outside, told: &mut Telling) {
+    let Ok(mut tree) = outside.tree(alloc) else {
+        return told.lack();
+    };
     match load_counted(alloc, &mut tree) {
-        Ok(old) => reread_over(alloc, given, outside, old, told)?,
+        Ok(old) => reread_over(alloc, given, outside, old, told),
         Err(_) => told.say("! no repository\n"),
     }
-    Ok(())
 }
 
-fn reread_over(
+fn reread_over(alloc: Global, given: &Given, outside: &Outside, old: Loaded, told: &mut Telling)
+    requires { AreInPackageOrder old.repo.pkgs }
+{
+    match one_edit(alloc, &old, given.part(0)) {
+        Ok(edits) => reread_edited(alloc, given, outside, old, &edits, told),
+        Err(NoMemory) => told.lack(),
+    }
+}
+
+fn reread_edited(
     alloc: Global,
     given: &Given,
     outside: &Outside,
     old: Loaded,
+    edits: &EntryEdits,
     told: &mut Telling,
-) -> Result<(), NoMemory>
-    requires { AreInPackageOrder old.repo.pkgs }
+)
+    requires order { AreInPackageOrder old.repo.pkgs }
+    requires entries { list_all (is_entry old.folders.categories) edits.now ≡ true }
 {
-    let path = given.part(0);
-    let edits = one_edit(alloc, &old.folders.categories, path)?;
-    let mut tree = outside.edited(alloc, path.bytes(), given.bytes(1))?;
-    match reread_entries(alloc, &mut tree, old, &edits) {
-        Ok(Reread::Done { loaded }) => {
-            tell(&loaded.repo, told);
-            told.say("> at most ");
-            told.number(loaded.found);
-            told.say(" files\n");
-        }
-        Ok(Reread::Unclear { loaded: _loaded }) => told.say("> unclear\n"),
-        Err(found) => fault(&found, told),
+    match outside.edited(alloc, given.bytes(0), given.bytes(1)) {
+        Ok(tree) => reread_in(alloc, tree, old, edits, told),
+        Err(NoMemory) => told.lack(),
     }
-    Ok(())
 }
 
-fn one_edit(alloc: Global, categories: &Texts, path: &Text) -> Result<EntryEdits, NoMemory>
+fn reread_in(alloc: Global, tree: MemTree, old: Loaded, edits: &EntryEdits, told: &mut Telling)
+    requires order { AreInPackageOrder old.repo.pkgs }
+    requires entries { list_all (is_entry old.folders.categories) edits.now ≡ true }
+{
+    let mut tree = tree;
+    match reread_entries(alloc, &mut tree, old, edits) {
+        Ok(found) => tell_reread(found, told),
+        Err(found) => fault(&found, told),
+    }
+}
+
+fn tell_reread(found: Reread, told: &mut Telling) {
+    match found {
+        Reread::Done { loaded } => tell_loaded(loaded, told),
+        Reread::Unclear { loaded } => tell_unclear(loaded, told),
+    }
+}
+
+fn tell_loaded(loaded: Loaded, told: &mut Telling) {
+    tell(&loaded.repo, told);
+    told.say("> at most ");
+    told.number(loaded.found);
+    told.say(" files\n");
+}
+
+fn tell_unclear(_loaded: Loaded, told: &mut Telling) {
+    told.say("> unclear\n");
+}
+
+fn one_edit(alloc: Global, old: &Loaded, path: &Text) -> Result<EntryEdits, NoMemory>
+    ensures { IfOk result (λ edits. list_all (is_entry old.now.folders.categories) edits ≡ true) }
+{
+    edit_at(alloc, &old.folders.categories, path)
+}
+
+fn edit_at(alloc: Global, categories: &Texts, path: &Text) -> Result<EntryEdits, NoMemory>
     ensures { IfOk result (λ edits. list_all (is_entry categories.now) edits ≡ true) }
 {
     let mut edits = EntryEdits::new(alloc);

@@ -17,38 +17,32 @@ use std::alloc::Global;
 use std::marker::Brand;
 use std::sync::ledger::Blank;
 
-/// Tells what is asked about gates within a budget, over records, and again over what was answered.
-pub(crate) fn asked(
-    alloc: Global,
-    call: &str,
-    given: &Given,
-    told: &mut Telling,
-) -> Result<(), NoMemory> {
-    match gates_in(alloc, given.bytes(1))? {
-        Some(gates) => over(alloc, call, &gates, given, told)?,
-        None => told.say("no gates"),
+/// Tells the answer to a call of this library, if it is one.
+pub(crate) fn answer(alloc: Global, call: &str, given: &Given, told: &mut Telling) -> bool {
+    match call {
+        "query" => asked(alloc, false, given, told),
+        "query-again" => asked(alloc, true, given, told),
+        "first-backed" => backed(alloc, given, told),
+        _ => return false,
     }
-    Ok(())
+    true
 }
 
-fn over(
-    alloc: Global,
-    call: &str,
-    gates: &Gates,
-    given: &Given,
-    told: &mut Telling,
-) -> Result<(), NoMemory> {
-    let certs = known_in(alloc, given.from(2))?;
-    let budget = given.number(0).clamp(1, 1_000_000) as u32;
-    counted::<Brand>(
-        alloc,
-        Blank::new(2),
-        call == "query-again",
-        gates,
-        budget,
-        &certs,
-        told,
-    )
+// What is asked about gates within a budget, over records, and again over what was answered.
+fn asked(alloc: Global, again: bool, given: &Given, told: &mut Telling) {
+    match gates_in(alloc, given.bytes(1)) {
+        Ok(Some(gates)) => over(alloc, again, &gates, given, told),
+        Ok(None) => told.say("no gates"),
+        Err(NoMemory) => told.lack(),
+    }
+}
+
+fn over(alloc: Global, again: bool, gates: &Gates, given: &Given, told: &mut Telling) {
+    let Ok(certs) = known_in(alloc, given.from(2)) else {
+        return told.lack();
+    };
+    let budget = given.budget(0);
+    counted::<Brand>(alloc, Blank::new(2), again, gates, budget, &certs, told)
 }
 
 fn counted<L: Ledger>(
@@ -59,7 +53,7 @@ fn counted<L: Ledger>(
     budget: u32,
     certs: &Known,
     told: &mut Telling,
-) -> Result<(), NoMemory>
+)
     requires name { blank.name ≡ L.name }
     requires parts { blank.parts ≡ L.parts }
     requires two { blank.parts ≡ 2 }
@@ -67,14 +61,38 @@ fn counted<L: Ledger>(
     requires most { budget ≤ 1000000 }
 {
     let mut steps = Steps::<L>::open(blank);
-    let outcome = ask(alloc, gates, budget, certs, &mut steps)?;
-    if !again {
-        return tell(alloc, &outcome, told);
+    match ask(alloc, gates, budget, certs, &mut steps) {
+        Ok(outcome) => {
+            if again {
+                tell_again(alloc, gates, budget, certs, outcome, &mut steps, told);
+            } else {
+                tell(alloc, &outcome, told);
+            }
+        }
+        Err(NoMemory) => told.lack(),
     }
-    let answer = answer_of(alloc, gates, budget, certs, outcome)?;
-    let is_again = is_same(alloc, gates, budget, &answer, &mut steps)?;
-    told.say(if is_again { "again" } else { "other" });
-    Ok(())
+}
+
+fn tell_again<L: Ledger>(
+    alloc: Global,
+    gates: &Gates,
+    budget: u32,
+    certs: &Known,
+    outcome: Outcome,
+    steps: &mut Steps<L>,
+    told: &mut Telling,
+)
+    requires asked { Asked gates.now budget certs.now outcome }
+    requires some { 0 < budget }
+    requires most { budget ≤ 1000000 }
+{
+    let Ok(answer) = answer_of(alloc, gates, budget, certs, outcome) else {
+        return told.lack();
+    };
+    match is_same(alloc, gates, budget, &answer, steps) {
+        Ok(is_again) => told.say(if is_again { "again" } else { "other" }),
+        Err(NoMemory) => told.lack(),
+    }
 }
 
 // Whether the record of an answer, asked anew, is taken, with the same answer.
@@ -125,7 +143,7 @@ fn is_reused(outcome: &Outcome) -> bool {
     }
 }
 
-fn tell(alloc: Global, outcome: &Outcome, told: &mut Telling) -> Result<(), NoMemory> {
+fn tell(alloc: Global, outcome: &Outcome, told: &mut Telling) {
     match outcome {
         Outcome::Refuted { log, reused } => {
             told.say("refuted");
@@ -138,10 +156,9 @@ fn tell(alloc: Global, outcome: &Outcome, told: &mut Telling) -> Result<(), NoMe
         }
         Outcome::Spent { sets } => {
             told.say("spent");
-            tell_sets(alloc, sets, told)?;
+            tell_sets(alloc, sets, told);
         }
     }
-    Ok(())
 }
 
 // The log of a record, and that there is none.
@@ -153,21 +170,23 @@ fn tell_reused(log: &Log, reused: bool, told: &mut Telling) {
     tell_log(log, told);
 }
 
-/// Tells what the first record that is backed claims of gates.
-pub(crate) fn backed(alloc: Global, given: &Given, told: &mut Telling) -> Result<(), NoMemory> {
-    backing_law();
-    match gates_in(alloc, given.bytes(0))? {
-        Some(gates) => first(alloc, &gates, given, told)?,
-        None => told.say("no gates"),
+// What the first record that is backed claims of gates.
+fn backed(alloc: Global, given: &Given, told: &mut Telling) {
+    match gates_in(alloc, given.bytes(0)) {
+        Ok(Some(gates)) => first(alloc, &gates, given, told),
+        Ok(None) => told.say("no gates"),
+        Err(NoMemory) => told.lack(),
     }
-    Ok(())
 }
 
-fn first(alloc: Global, gates: &Gates, given: &Given, told: &mut Telling) -> Result<(), NoMemory> {
-    let certs = known_in(alloc, given.from(1))?;
-    match first_backed(alloc, gates, &certs)? {
-        Some(claim) => told_claim(&claim, told),
-        None => told.say("none"),
+fn first(alloc: Global, gates: &Gates, given: &Given, told: &mut Telling) {
+    backing_law();
+    let Ok(certs) = known_in(alloc, given.from(1)) else {
+        return told.lack();
+    };
+    match first_backed(alloc, gates, &certs) {
+        Ok(Some(claim)) => told_claim(&claim, told),
+        Ok(None) => told.say("none"),
+        Err(NoMemory) => told.lack(),
     }
-    Ok(())
 }

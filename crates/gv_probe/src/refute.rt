@@ -1,7 +1,7 @@
 //! Logs as they are written in a line, and calls of `gv_refute`.
 //!
 //! A log has its steps behind one another; a step is the list of its clause, `<` and that of its hints.
-use crate::given::Given;
+use crate::given::{Given, cut_at};
 use crate::logic::{bits_in, clause_in, clauses_in, numbers_in, tell_lits, tell_numbers};
 use crate::written::Telling;
 use gv_base::{NoMemory, Text, words_of};
@@ -26,11 +26,15 @@ fn log_in(alloc: Global, text: &[u8]) -> Result<Log, NoMemory> {
 }
 
 fn step_in(alloc: Global, word: &[u8]) -> Result<Step, NoMemory> {
-    let mut sides = word.split(|b| *b == b'<');
-    let clause = clause_in(alloc, sides.next().unwrap_or(&[]))?;
-    let numbers = numbers_in(alloc, sides.next().unwrap_or(&[]))?;
-    let hints = Hints::of(alloc, &numbers)?;
+    let (lits, hints) = cut_at(word, b'<');
+    let clause = clause_in(alloc, lits)?;
+    let hints = hints_in(alloc, hints)?;
     Ok(Step { clause, hints })
+}
+
+fn hints_in(alloc: Global, list: &[u8]) -> Result<Hints, NoMemory> {
+    let numbers = numbers_in(alloc, list)?;
+    Hints::of(alloc, &numbers)
 }
 
 /// Tells a log, a space before each step.
@@ -43,29 +47,39 @@ pub(crate) fn tell_log(log: &Log, told: &mut Telling) {
     }
 }
 
-/// Tells what is said of each log over the same clauses, with the same marks.
-pub(crate) fn checked(alloc: Global, given: &Given, told: &mut Telling) -> Result<(), NoMemory> {
-    step_law();
-    rule_law();
-    match clauses_in(alloc, given.bytes(0))? {
-        Some(clauses) => over(alloc, &clauses, given.from(1), told)?,
-        None => told.say("no clauses"),
+/// Tells the answer to a call of this library, if it is one.
+pub(crate) fn answer(alloc: Global, call: &str, given: &Given, told: &mut Telling) -> bool {
+    match call {
+        "log" => copied(alloc, given, told),
+        "check" => checked(alloc, given, told),
+        "proves-none" => none_proved(alloc, given, told),
+        "proves-least" => least_proved(alloc, given, told),
+        _ => return false,
     }
-    Ok(())
+    true
 }
 
-fn over(
-    alloc: Global,
-    clauses: &Clauses,
-    parts: &[Text],
-    told: &mut Telling,
-) -> Result<(), NoMemory> {
-    let mut marks = Marks::new(alloc, clauses.variables())?;
-    for part in parts {
-        let log = log_in(alloc, part.bytes())?;
-        verdict(check(clauses, &log, &mut marks), told);
+// What is said of each log over the same clauses, with the same marks.
+fn checked(alloc: Global, given: &Given, told: &mut Telling) {
+    step_law();
+    rule_law();
+    match clauses_in(alloc, given.bytes(0)) {
+        Ok(Some(clauses)) => over(alloc, &clauses, given.from(1), told),
+        Ok(None) => told.say("no clauses"),
+        Err(NoMemory) => told.lack(),
     }
-    Ok(())
+}
+
+fn over(alloc: Global, clauses: &Clauses, parts: &[Text], told: &mut Telling) {
+    let Ok(mut marks) = Marks::new(alloc, clauses.variables()) else {
+        return told.lack();
+    };
+    for part in parts {
+        match log_in(alloc, part.bytes()) {
+            Ok(log) => verdict(check(clauses, &log, &mut marks), told),
+            Err(NoMemory) => told.lack(),
+        }
+    }
 }
 
 fn verdict(verdict: Verdict, told: &mut Telling) {
@@ -81,31 +95,31 @@ fn verdict(verdict: Verdict, told: &mut Telling) {
     }
 }
 
-/// Tells a log once more.
-pub(crate) fn copied(alloc: Global, given: &Given, told: &mut Telling) -> Result<(), NoMemory> {
+// A log once more.
+fn copied(alloc: Global, given: &Given, told: &mut Telling) {
     told.say("log");
-    tell_log(&log_in(alloc, given.bytes(0))?, told);
-    Ok(())
+    match log_in(alloc, given.bytes(0)) {
+        Ok(log) => tell_log(&log, told),
+        Err(NoMemory) => told.lack(),
+    }
 }
 
-/// Tells whether a log proves that there are no bits.
-pub(crate) fn none_proved(
-    alloc: Global,
-    given: &Given,
-    told: &mut Telling,
-) -> Result<(), NoMemory> {
-    told.yes_no(proves_none(&log_in(alloc, given.bytes(0))?));
-    Ok(())
+// Whether a log proves that there are no bits.
+fn none_proved(alloc: Global, given: &Given, told: &mut Telling) {
+    match log_in(alloc, given.bytes(0)) {
+        Ok(log) => told.yes_no(proves_none(&log)),
+        Err(NoMemory) => told.lack(),
+    }
 }
 
-/// Tells whether a log proves bits least.
-pub(crate) fn least_proved(
-    alloc: Global,
-    given: &Given,
-    told: &mut Telling,
-) -> Result<(), NoMemory> {
+// Whether a log proves bits least.
+fn least_proved(alloc: Global, given: &Given, told: &mut Telling) {
+    let Ok(bits) = bits_in(alloc, given.bytes(0)) else {
+        return told.lack();
+    };
     least_bits_law();
-    let bits = bits_in(alloc, given.bytes(0))?;
-    told.yes_no(proves_least(&log_in(alloc, given.bytes(1))?, &bits));
-    Ok(())
+    match log_in(alloc, given.bytes(1)) {
+        Ok(log) => told.yes_no(proves_least(&log, &bits)),
+        Err(NoMemory) => told.lack(),
+    }
 }

@@ -1,7 +1,7 @@
 //! Calls of `gv_report`. A report is written as `KEYWORD|SUBJECT|CLASS|CONTEXT|WITNESS|DETAIL`, where an empty part isn't
 //! there; a subject is `PATH:LINE` or `CATEGORY/NAME/VERSION/PF`, a context `LINE ARCH PATH LEVEL`, and `''` a text without
 //! bytes.
-use crate::given::{Given, number_in};
+use crate::given::{Given, number_in, words_in};
 use crate::made::words;
 use crate::written::Telling;
 use gv_base::{NoMemory, Text, Texts};
@@ -14,51 +14,59 @@ use gv_words::default_options;
 use std::alloc::Global;
 
 /// Tells the answer to a call in one line of this library, if it is one.
-pub(crate) fn answer(
-    alloc: Global,
-    call: &str,
-    given: &Given,
-    told: &mut Telling,
-) -> Result<bool, NoMemory> {
+pub(crate) fn answer(alloc: Global, call: &str, given: &Given, told: &mut Telling) -> bool {
     match call {
-        "ties" => ties(alloc, given.small_number(0), told)?,
-        "selected" => asked(alloc, given, told)?,
-        _ => return Ok(false),
+        "ties" => ties(alloc, given.small_number(0), told),
+        "selected" => asked(alloc, given, told),
+        _ => return false,
     }
-    Ok(true)
+    true
 }
 
 // How many are left of so many reports that the order tells not apart, each of which is there twice.
-fn ties(alloc: Global, count: u32, told: &mut Telling) -> Result<(), NoMemory> {
-    let mut reports = Reports::new(alloc);
-    for _ in 0..2 {
-        for number in 0..count {
-            add_tied(alloc, number, &mut reports)?;
-        }
+fn ties(alloc: Global, count: u32, told: &mut Telling) {
+    match left_of(alloc, count) {
+        Ok(left) => told.number(left.items().len() as u64),
+        Err(NoMemory) => told.lack(),
     }
-    let left = ordered(alloc, reports)?.items().len();
-    told.number(left as u64);
-    Ok(())
+}
+
+fn left_of(alloc: Global, count: u32) -> Result<Reports, NoMemory> {
+    let mut reports = Reports::new(alloc);
+    for number in 0..count.saturating_mul(2) {
+        add_tied(alloc, number % count.max(1), &mut reports)?;
+    }
+    ordered(alloc, reports)
 }
 
 fn add_tied(alloc: Global, number: u32, reports: &mut Reports) -> Result<(), NoMemory> {
-    let mut digits = Telling::new(alloc);
-    digits.number(u64::from(number));
-    let witness = Text::of(alloc, digits.bytes()?)?;
-    if let Some(mut report) = report(alloc, "VisibleVcsPkg|x/y/1/y-1||||")? {
-        report.witness = Some(witness);
-        reports.add(report)?;
+    match report(alloc, "VisibleVcsPkg|x/y/1/y-1||||")? {
+        Some(report) => reports.add(tied(alloc, number, report)?),
+        None => Ok(()),
     }
-    Ok(())
 }
 
-fn asked(alloc: Global, given: &Given, told: &mut Telling) -> Result<(), NoMemory> {
-    let options = options_of(alloc, given)?;
-    match report(alloc, given.words(2))? {
-        Some(report) => is_selected(&options, &report, told),
-        None => told.say("no report"),
+fn tied(alloc: Global, number: u32, report: Report) -> Result<Report, NoMemory> {
+    let mut report = report;
+    let mut digits = Telling::new(alloc);
+    digits.number(u64::from(number));
+    report.witness = Some(Text::of(alloc, digits.bytes()?)?);
+    Ok(report)
+}
+
+fn asked(alloc: Global, given: &Given, told: &mut Telling) {
+    match options_of(alloc, given) {
+        Ok(options) => asked_by(alloc, &options, given.words(2), told),
+        Err(NoMemory) => told.lack(),
     }
-    Ok(())
+}
+
+fn asked_by(alloc: Global, options: &Options, line: &str, told: &mut Telling) {
+    match report(alloc, line) {
+        Ok(Some(report)) => is_selected(options, &report, told),
+        Ok(None) => told.say("no report"),
+        Err(NoMemory) => told.lack(),
+    }
 }
 
 fn options_of(alloc: Global, given: &Given) -> Result<Options, NoMemory> {
@@ -86,18 +94,30 @@ fn is_selected(options: &Options, report: &Report, told: &mut Telling) {
 
 /// Tells what is printed of these reports, behind a `&` of others that are added to them: as JSON, in order, or in order twice,
 /// where the words say so, and of one keyword or none where one is named.
-pub(crate) fn emitted(
-    alloc: Global,
-    how: &str,
-    lines: &Texts,
-    told: &mut Telling,
-) -> Result<(), NoMemory> {
-    let reports = in_order(alloc, how, gathered(alloc, lines)?)?;
+pub(crate) fn emitted(alloc: Global, how: &str, lines: &Texts, told: &mut Telling) {
+    match reports_of(alloc, how, lines) {
+        Ok(reports) => emit(alloc, how, &reports, told),
+        Err(NoMemory) => told.lack(),
+    }
+}
+
+fn emit(alloc: Global, how: &str, reports: &Reports, told: &mut Telling) {
+    match chosen(alloc, how) {
+        Ok(options) => printed(alloc, &options, reports, told),
+        Err(NoMemory) => told.lack(),
+    }
+}
+
+fn chosen(alloc: Global, how: &str) -> Result<Options, NoMemory> {
     let mut options = default_options(alloc)?;
     for word in how.split(' ') {
         choose(alloc, &mut options, word)?;
     }
-    printed(alloc, &options, &reports, told)
+    Ok(options)
+}
+
+fn reports_of(alloc: Global, how: &str, lines: &Texts) -> Result<Reports, NoMemory> {
+    in_order(alloc, how, gathered(alloc, lines)?)
 }
 
 // The reports, in order where a word says so.
@@ -119,7 +139,7 @@ fn gathered(alloc: Global, lines: &Texts) -> Result<Reports, NoMemory> {
             reports.append(others)?;
             others = Reports::new(alloc);
         }
-        add_read(alloc, text_of(line.bytes()), &mut others)?;
+        add_read(alloc, words_in(line.bytes()), &mut others)?;
     }
     reports.append(others)?;
     Ok(reports)
@@ -142,32 +162,12 @@ fn choose(alloc: Global, options: &mut Options, word: &str) -> Result<(), NoMemo
 }
 
 /// Tells what is printed, behind `> ` in each line.
-pub(crate) fn printed(
-    alloc: Global,
-    options: &Options,
-    reports: &Reports,
-    told: &mut Telling,
-) -> Result<(), NoMemory> {
+pub(crate) fn printed(alloc: Global, options: &Options, reports: &Reports, told: &mut Telling) {
     let test = |report: &Report| selected(options, report);
-    let text = Emitter::new(options, test).emit(alloc, reports)?;
-    behind(text.bytes(), told);
-    Ok(())
-}
-
-// Each line behind `> `.
-fn behind(lines: &[u8], told: &mut Telling) {
-    let mut begins = true;
-    for b in lines {
-        if begins {
-            told.add(b"> ");
-        }
-        told.add(&[*b]);
-        begins = *b == b'\n';
+    match Emitter::new(options, test).emit(alloc, reports) {
+        Ok(text) => told.behind(b"> ", text.bytes()),
+        Err(NoMemory) => told.lack(),
     }
-}
-
-fn text_of(bytes: &[u8]) -> &str {
-    std::str::from_utf8(bytes).unwrap_or("")
 }
 
 fn part<'a>(line: &'a str, separator: char, at: usize) -> &'a str {

@@ -15,36 +15,32 @@ pub(crate) fn answer(
     given: &Given,
     outside: &Outside,
     told: &mut Telling,
-) -> Result<bool, NoMemory> {
-    if entry::answer(alloc, call, given, told)? {
-        return Ok(true);
+) -> bool {
+    entry::answer(alloc, call, given, told)
+        || facts::answer(alloc, call, given, told)
+        || usestate::answer(alloc, call, given, told)
+        || visible::answer(alloc, call, given, told)
+        || reports::answer(alloc, call, given, told)
+        || lower::answer(alloc, call, given, told)
+        || keys::answer(alloc, call, given, told)
+        || of_profiles(alloc, call, given, outside, told)
+        || overlays::answer(alloc, call, given, outside, told)
+        || linting::answer(alloc, call, given, outside, told)
+        || checks::answer(alloc, call, given, outside, told)
+}
+
+fn of_profiles(
+    alloc: Global,
+    call: &str,
+    given: &Given,
+    outside: &Outside,
+    told: &mut Telling,
+) -> bool {
+    match profiles::answer(alloc, call, given, outside, told) {
+        Ok(is_call) => is_call,
+        Err(NoMemory) => {
+            told.lack();
+            true
+        }
     }
-    if facts::answer(alloc, call, given, told)? {
-        return Ok(true);
-    }
-    if usestate::answer(alloc, call, given, told)? {
-        return Ok(true);
-    }
-    if visible::answer(alloc, call, given, told)? {
-        return Ok(true);
-    }
-    if reports::answer(alloc, call, given, told)? {
-        return Ok(true);
-    }
-    if lower::answer(alloc, call, given, told)? {
-        return Ok(true);
-    }
-    if keys::answer(alloc, call, given, told)? {
-        return Ok(true);
-    }
-    if profiles::answer(alloc, call, given, outside, told)? {
-        return Ok(true);
-    }
-    if overlays::answer(alloc, call, given, outside, told)? {
-        return Ok(true);
-    }
-    if linting::answer(alloc, call, given, outside, told)? {
-        return Ok(true);
-    }
-    checks::answer(alloc, call, given, outside, told)
 }

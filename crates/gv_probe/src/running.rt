@@ -9,12 +9,12 @@ use std::alloc::Global;
 use std::marker::Brand;
 use std::sync::ledger::Blank;
 
-// The pieces between spaces, empty ones among them; no word where there is no byte.
-fn pieces(alloc: Global, line: &[u8]) -> Result<Texts, NoMemory> {
+// The pieces between spaces, empty ones among them; no word where there is none.
+fn pieces(alloc: Global, line: &str) -> Result<Texts, NoMemory> {
     let mut words = Texts::new(alloc);
     if !line.is_empty() {
-        for word in line.split(|b| *b == b' ') {
-            words.add(Text::of(alloc, word)?)?;
+        for word in line.split(' ') {
+            words.add(Text::of(alloc, word.as_bytes())?)?;
         }
     }
     Ok(words)
@@ -39,19 +39,21 @@ fn counted<L: Ledger>(
 }
 
 /// Tells the answer to a run with these words. What the store has then is kept.
-pub(crate) fn ran(
-    alloc: Global,
-    words: &[u8],
-    outside: &mut Outside,
-    told: &mut Telling,
-) -> Result<(), NoMemory> {
-    let words = pieces(alloc, words)?;
-    let mut store = outside.store(alloc)?;
-    outside.before = store.files().copy(alloc)?;
-    over_tree(alloc, &words, &mut store, outside, told)?;
-    outside.store = store.files().copy(alloc)?;
-    outside.forget();
-    Ok(())
+pub(crate) fn ran(alloc: Global, words: &str, outside: &mut Outside, told: &mut Telling) {
+    match pieces(alloc, words) {
+        Ok(words) => over_store(alloc, &words, outside, told),
+        Err(NoMemory) => told.lack(),
+    }
+    outside.forget(alloc);
+}
+
+fn over_store(alloc: Global, words: &Texts, outside: &mut Outside, told: &mut Telling) {
+    let Ok(mut store) = outside.store(alloc) else {
+        return told.lack();
+    };
+    told.done(outside.begin_run(alloc, &store));
+    over_tree(alloc, words, &mut store, outside, told);
+    told.done(outside.end_run(alloc, &store));
 }
 
 fn over_tree(
@@ -60,10 +62,14 @@ fn over_tree(
     store: &mut MemStore,
     outside: &Outside,
     told: &mut Telling,
-) -> Result<(), NoMemory> {
-    let mut tree = outside.tree(alloc)?;
-    let mut input = outside.input(alloc)?;
-    over_sinks(alloc, words, &mut tree, store, &mut input, outside, told)
+) {
+    let Ok(mut tree) = outside.tree(alloc) else {
+        return told.lack();
+    };
+    match outside.input(alloc) {
+        Ok(input) => over_sinks(alloc, words, &mut tree, store, input, outside, told),
+        Err(NoMemory) => told.lack(),
+    }
 }
 
 // The status, the lines of err behind `!` and those of out behind `>`; `~` at the end of a line says that it has no line feed.
@@ -72,53 +78,39 @@ fn over_sinks(
     words: &Texts,
     tree: &mut MemTree,
     store: &mut MemStore,
-    input: &mut MemSource,
+    input: MemSource,
     outside: &Outside,
     told: &mut Telling,
-) -> Result<(), NoMemory> {
-    let mut out = outside.out(alloc)?;
-    let mut err = outside.err(alloc)?;
+) {
+    let Ok(mut out) = outside.sink(alloc, b"out") else {
+        return told.lack();
+    };
+    let Ok(mut err) = outside.sink(alloc, b"err") else {
+        return told.lack();
+    };
+    let mut input = input;
     let status = counted::<Brand>(
         alloc,
         Blank::new(2),
         words,
         tree,
         store,
-        input,
+        &mut input,
         &mut out,
         &mut err,
     );
     told.say("= ");
     told.number(u64::from(status));
     told.add(b"\n");
-    mark(err.held(), b"! ", told);
-    mark(out.held(), b"> ", told);
-    Ok(())
+    mark(b"! ", err.held(), told);
+    mark(b"> ", out.held(), told);
 }
 
 // Adds each line behind a mark.
-fn mark(bytes: &[u8], mark: &[u8], told: &mut Telling) {
-    match bytes.split_last() {
-        None => {}
-        Some((b'\n', lines)) => {
-            add_lines(lines, mark, told);
-            told.add(b"\n");
-        }
-        Some(_) => {
-            add_lines(bytes, mark, told);
-            told.add(b"~\n");
-        }
-    }
-}
-
-fn add_lines(lines: &[u8], mark: &[u8], told: &mut Telling) {
-    let mut is_first = true;
-    for line in lines.split(|b| *b == b'\n') {
-        if !is_first {
-            told.add(b"\n");
-        }
-        is_first = false;
-        told.add(mark);
-        told.add(line);
+fn mark(mark: &[u8], lines: &[u8], told: &mut Telling) {
+    told.behind(mark, lines);
+    match lines.last() {
+        None | Some(b'\n') => {}
+        Some(_) => told.add(b"~\n"),
     }
 }

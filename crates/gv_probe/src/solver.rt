@@ -1,33 +1,46 @@
 //! Calls of `gv_solver`.
 ghost use Rattle.std.specs.Prelude.{◌≡◌};
+ghost use Rattle.gv_logic.specs.Encoding.{formula_of};
 
 use crate::given::Given;
 use crate::logic::{gates_in, tell_lits, tell_numbers, told_bits, u32_in};
 use crate::written::Telling;
 use gv_base::{Ledger, NoMemory, Steps};
 use gv_encode::encode;
-use gv_logic::{Clauses, Gates};
+use gv_logic::{Bits, Clauses, Gates};
 use gv_refute::{Log, Marks, Verdict, check, proves_least, proves_none};
 use gv_solver::{Answer, FlagSets, solve};
 use std::alloc::Global;
 use std::marker::Brand;
 use std::sync::ledger::Blank;
 
-/// Tells what is answered within a budget about gates, or its log.
-pub(crate) fn solved(
-    alloc: Global,
-    call: &str,
-    given: &Given,
-    told: &mut Telling,
-) -> Result<(), NoMemory> {
-    match gates_in(alloc, given.bytes(1))? {
-        Some(gates) => {
-            counted::<Brand>(alloc, Blank::new(2), call == "solve", &gates, given, told)
+/// Tells the answer to a call of this library, if it is one: what is answered within a budget about gates, or its log.
+pub(crate) fn answer(alloc: Global, call: &str, given: &Given, told: &mut Telling) -> bool {
+    if !matches!(call, "solve" | "solve-log") {
+        return false;
+    }
+    match gates_in(alloc, given.bytes(1)) {
+        Ok(Some(gates)) => solved(alloc, call == "solve", &gates, given, told),
+        Ok(None) => told.say("no gates"),
+        Err(NoMemory) => told.lack(),
+    }
+    true
+}
+
+fn solved(alloc: Global, is_answer: bool, gates: &Gates, given: &Given, told: &mut Telling) {
+    match encode(alloc, gates) {
+        Ok(clauses) => {
+            counted::<Brand>(
+                alloc,
+                Blank::new(2),
+                is_answer,
+                gates,
+                &clauses,
+                given,
+                told,
+            );
         }
-        None => {
-            told.say("no gates");
-            Ok(())
-        }
+        Err(NoMemory) => told.lack(),
     }
 }
 
@@ -36,47 +49,65 @@ fn counted<L: Ledger>(
     blank: Blank,
     is_answer: bool,
     gates: &Gates,
+    clauses: &Clauses,
     given: &Given,
     told: &mut Telling,
-) -> Result<(), NoMemory>
+)
     requires name { blank.name ≡ L.name }
     requires parts { blank.parts ≡ L.parts }
     requires two { blank.parts ≡ 2 }
+    requires encoded { clauses.now ≡ formula_of gates.now }
 {
-    let budget = given.number(0).clamp(1, 1_000_000) as u32;
     let mut steps = Steps::<L>::open(blank);
-    let clauses = encode(alloc, gates)?;
-    let answer = solve(alloc, gates, &clauses, budget, &mut steps)?;
-    if is_answer {
-        return tell(alloc, &clauses, &answer, told);
+    match solve(alloc, gates, clauses, given.budget(0), &mut steps) {
+        Ok(answer) => answer_or_log(alloc, is_answer, clauses, &answer, given, told),
+        Err(NoMemory) => told.lack(),
     }
-    log_of(&answer, given, told);
-    Ok(())
 }
 
-// The answer, and that its log is accepted and proves it.
-fn tell(
+fn answer_or_log(
     alloc: Global,
+    is_answer: bool,
     clauses: &Clauses,
     answer: &Answer,
+    given: &Given,
     told: &mut Telling,
-) -> Result<(), NoMemory> {
+) {
+    if is_answer {
+        tell(alloc, answer, told);
+        tell_check(alloc, clauses, answer, told);
+    } else {
+        log_of(answer, given, told);
+    }
+}
+
+fn tell(alloc: Global, answer: &Answer, told: &mut Telling) {
     match answer {
         Answer::Refuted { .. } => told.say("refuted"),
-        Answer::Found { bits, .. } => {
-            told.say("found ");
-            told_bits(bits.copy(alloc)?.items(), told);
-        }
+        Answer::Found { bits, .. } => tell_found(alloc, bits, told),
         Answer::Spent { sets, .. } => {
             told.say("spent");
-            tell_sets(alloc, sets, told)?;
+            tell_sets(alloc, sets, told);
         }
     }
-    let mut marks = Marks::new(alloc, clauses.variables())?;
+}
+
+fn tell_found(alloc: Global, bits: &Bits, told: &mut Telling) {
+    told.say("found ");
+    match bits.copy(alloc) {
+        Ok(bits) => told_bits(bits.items(), told),
+        Err(NoMemory) => told.lack(),
+    }
+}
+
+// That the log is not accepted or doesn't prove the answer.
+fn tell_check(alloc: Global, clauses: &Clauses, answer: &Answer, told: &mut Telling) {
+    let Ok(mut marks) = Marks::new(alloc, clauses.variables()) else {
+        return told.lack();
+    };
     if !is_proved(answer) || check(clauses, log(answer), &mut marks) != Verdict::Accepted {
         told.say(" by no log");
     }
-    Ok(())
 }
 
 fn log(answer: &Answer) -> &Log {
@@ -96,16 +127,18 @@ fn is_proved(answer: &Answer) -> bool {
 }
 
 /// Tells sets, a space before each.
-pub(crate) fn tell_sets(
-    alloc: Global,
-    sets: &FlagSets,
-    told: &mut Telling,
-) -> Result<(), NoMemory> {
-    for set in sets.copy(alloc)?.items() {
+pub(crate) fn tell_sets(alloc: Global, sets: &FlagSets, told: &mut Telling) {
+    match sets.copy(alloc) {
+        Ok(sets) => add_sets(&sets, told),
+        Err(NoMemory) => told.lack(),
+    }
+}
+
+fn add_sets(sets: &FlagSets, told: &mut Telling) {
+    for set in sets.items() {
         told.add(b" ");
         tell_numbers(set.items(), told);
     }
-    Ok(())
 }
 
 // How many steps the log has, and the clauses of those that are asked for.

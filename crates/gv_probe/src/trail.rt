@@ -14,25 +14,38 @@ use gv_logic::{Clauses, Lit};
 use gv_trail::{Propagation, Trail};
 use std::alloc::Global;
 
-/// Tells what a trail over clauses tells at the steps of a walk.
-pub(crate) fn walked(alloc: Global, given: &Given, told: &mut Telling) -> Result<(), NoMemory> {
-    let Some(clauses) = clauses_in(alloc, given.bytes(0))? else {
-        told.say("no clauses");
-        return Ok(());
-    };
-    let mut all = Telling::new(alloc);
-    over(alloc, clauses, given.from(1), &mut all)?;
-    told.add(all.bytes()?.get(1..).unwrap_or(&[]));
-    Ok(())
+/// Tells the answer to the call of this library, if it is one: what a trail over clauses tells at the steps of a walk.
+pub(crate) fn answer(alloc: Global, call: &str, given: &Given, told: &mut Telling) -> bool {
+    if call != "trail" {
+        return false;
+    }
+    match clauses_in(alloc, given.bytes(0)) {
+        Ok(Some(clauses)) => walked(alloc, clauses, given.from(1), told),
+        Ok(None) => told.say("no clauses"),
+        Err(NoMemory) => told.lack(),
+    }
+    true
 }
 
-fn over(alloc: Global, first: Clauses, steps: &[Text], told: &mut Telling) -> Result<(), NoMemory> {
-    let mut clauses = first;
-    let mut trail = Trail::new(alloc, &clauses)?;
-    for step in steps {
-        perform(alloc, step.bytes(), &mut clauses, &mut trail, told)?;
+fn walked(alloc: Global, clauses: Clauses, steps: &[Text], told: &mut Telling) {
+    let mut all = Telling::new(alloc);
+    over(alloc, clauses, steps, &mut all);
+    match all.bytes() {
+        Ok(bytes) => told.add(bytes.get(1..).unwrap_or(&[])),
+        Err(NoMemory) => told.lack(),
     }
-    Ok(())
+}
+
+fn over(alloc: Global, first: Clauses, steps: &[Text], told: &mut Telling) {
+    let mut clauses = first;
+    let Ok(mut trail) = Trail::new(alloc, &clauses) else {
+        return told.lack();
+    };
+    for step in steps {
+        let Ok(()) = perform(alloc, step.bytes(), &mut clauses, &mut trail, told) else {
+            return told.lack();
+        };
+    }
 }
 
 fn perform(
@@ -47,25 +60,13 @@ fn perform(
 {
     let number = u32_in(step);
     match step {
-        [b'+', list @ ..] => attach(alloc, list, clauses, trail),
-        [b'd', ..] if number / 2 < clauses.variables() => {
-            decide(trail, Lit(number));
-            Ok(())
-        }
-        [b'b', ..] => {
-            trail.back_to(number.min(trail.level()));
-            Ok(())
-        }
-        [b'p', ..] => {
-            let said = trail.propagate(clauses);
-            tell_propagation(said, told);
-            Ok(())
-        }
-        _ => {
-            tell(step, trail, told);
-            Ok(())
-        }
+        [b'+', list @ ..] => return attach(alloc, list, clauses, trail),
+        [b'd', ..] if number / 2 < clauses.variables() => decide(trail, Lit(number)),
+        [b'b', ..] => trail.back_to(number.min(trail.level())),
+        [b'p', ..] => tell_propagation(trail.propagate(clauses), told),
+        _ => tell(step, trail, told),
     }
+    Ok(())
 }
 
 // Adds a clause and attaches it.

@@ -3,7 +3,7 @@ ghost use Rattle.std.specs.Prelude.{IfSome};
 ghost use Rattle.gv_usestate.specs.Kinds.{IsOneOf};
 
 use crate::given::Given;
-use crate::made::{bare_profile, member_of, rules, words};
+use crate::made::{Made, bare_profile, member_of, rules, words};
 use crate::written::Telling;
 use gv_base::{NoMemory, Text};
 use gv_facts::{Level, Pkg, Profile, Profiles, ValueList, ValueLists};
@@ -15,43 +15,52 @@ use std::alloc::Global;
 
 /// Tells the answer to a call of this library, if it is one. Each is about x/y-1.2 in slot 0/3 with these keywords and flags,
 /// and a profile with these rules, where ELIBC and ARCH are implicit and ARCH isn't prefixed.
-pub(crate) fn answer(
-    alloc: Global,
-    call: &str,
-    given: &Given,
-    told: &mut Telling,
-) -> Result<bool, NoMemory> {
+pub(crate) fn answer(alloc: Global, call: &str, given: &Given, told: &mut Telling) -> bool {
     if !matches!(call, "state" | "effective" | "kind") {
-        return Ok(false);
+        return false;
     }
-    let mut lines = Telling::new(alloc);
-    lines.add(b"EAPI=8\nSLOT=0/3\nKEYWORDS=");
-    lines.add(given.bytes(0));
-    lines.add(b"\nIUSE=");
-    lines.add(given.bytes(1));
-    match member_of(alloc, b"x", b"y-1.2", lines.bytes()?)? {
-        Some(made) => of_pkg(alloc, call, &made.pkg, given, told)?,
-        None => told.say("no package"),
+    match made_of(alloc, given) {
+        Ok(Some(made)) => of_made(alloc, call, made, given, told),
+        Ok(None) => told.say("no package"),
+        Err(NoMemory) => told.lack(),
     }
-    Ok(true)
+    true
 }
 
-fn of_pkg(
-    alloc: Global,
-    call: &str,
-    pkg: &Pkg,
-    given: &Given,
-    told: &mut Telling,
-) -> Result<(), NoMemory> {
-    let profile = profile(alloc, given.words(2))?;
+fn made_of(alloc: Global, given: &Given) -> Result<Option<Made>, NoMemory> {
+    let lines = Telling::of(
+        alloc,
+        &[
+            b"EAPI=8\nSLOT=0/3\nKEYWORDS=",
+            given.bytes(0),
+            b"\nIUSE=",
+            given.bytes(1),
+        ],
+    );
+    member_of(alloc, b"x", b"y-1.2", lines.bytes()?)
+}
+
+fn of_made(alloc: Global, call: &str, made: Made, given: &Given, told: &mut Telling) {
+    of_pkg(alloc, call, &made.pkg, given, told);
+}
+
+fn of_pkg(alloc: Global, call: &str, pkg: &Pkg, given: &Given, told: &mut Telling) {
     match call {
-        "state" => states(alloc, pkg, profile, given.part(3), told),
-        "kind" => kinds(alloc, pkg, profile, given.bytes(3), told),
-        _ => {
-            told.joined(&effective(alloc, pkg, &profile)?, b' ');
-            Ok(())
-        }
+        "state" => states(alloc, pkg, given, told),
+        "kind" => kinds(alloc, pkg, given, told),
+        _ => flags(alloc, pkg, given, told),
     }
+}
+
+fn flags(alloc: Global, pkg: &Pkg, given: &Given, told: &mut Telling) {
+    match profile(alloc, given.words(2)) {
+        Ok(profile) => flags_in(alloc, pkg, profile, told),
+        Err(NoMemory) => told.lack(),
+    }
+}
+
+fn flags_in(alloc: Global, pkg: &Pkg, profile: Profile, told: &mut Telling) {
+    told.texts(effective(alloc, pkg, &profile), b' ');
 }
 
 // Variables and their values.
@@ -113,43 +122,36 @@ fn kind_text(kind: FlagKind) -> &'static [u8] {
 
 // The states at stable and at testing.
 fn both(alloc: Global, stable: FlagState, testing: FlagState) -> Telling {
-    let mut told = Telling::new(alloc);
-    told.add(state_text(stable));
-    told.add(b" ");
-    told.add(state_text(testing));
-    told
+    Telling::of(alloc, &[state_text(stable), b" ", state_text(testing)])
+}
+
+fn add_profile(alloc: Global, lines: &str, profiles: &mut Profiles) -> Result<(), NoMemory> {
+    profiles.add(profile(alloc, lines)?)
 }
 
 // The states of the flag, asked in each way.
-fn states(
-    alloc: Global,
-    pkg: &Pkg,
-    profile: Profile,
-    flag: &Text,
-    told: &mut Telling,
-) -> Result<(), NoMemory> {
-    plain_states(alloc, pkg, &profile, flag, told);
+fn states(alloc: Global, pkg: &Pkg, given: &Given, told: &mut Telling) {
     let mut profiles = Profiles::new(alloc);
-    profiles.add(profile)?;
-    match first(profiles.items()) {
-        Some(profile) => all_states(alloc, profiles.items(), profile, pkg, flag.bytes(), told),
-        None => Ok(()),
+    told.done(add_profile(alloc, given.words(2), &mut profiles));
+    if let Some(profile) = first(profiles.items()) {
+        states_in(alloc, profiles.items(), profile, pkg, given.part(3), told);
     }
 }
 
-fn all_states(
+fn states_in(
     alloc: Global,
     profiles: &[Profile],
     profile: &Profile,
     pkg: &Pkg,
-    flag: &[u8],
+    flag: &Text,
     told: &mut Telling,
-) -> Result<(), NoMemory>
+)
     requires { IsOneOf profiles.now profile.now }
 {
-    add_kept(alloc, profiles, profile, pkg, flag, told)?;
+    plain_states(alloc, pkg, profile, flag, told);
+    add_kept(alloc, profiles, profile, pkg, flag.bytes(), told);
     let asked = ProfileStates::of(profile);
-    add_ruled(alloc, profiles, &asked, pkg, flag, told)
+    add_ruled(alloc, profiles, &asked, pkg, flag.bytes(), told);
 }
 
 fn plain_states(alloc: Global, pkg: &Pkg, profile: &Profile, flag: &Text, told: &mut Telling) {
@@ -175,11 +177,13 @@ fn add_kept(
     pkg: &Pkg,
     flag: &[u8],
     told: &mut Telling,
-) -> Result<(), NoMemory>
+)
     requires { IsOneOf profiles.now profile.now }
 {
-    let kept = ProfileStates::new(alloc, profile)?;
-    add_ruled(alloc, profiles, &kept, pkg, flag, told)
+    match ProfileStates::new(alloc, profile) {
+        Ok(kept) => add_ruled(alloc, profiles, &kept, pkg, flag, told),
+        Err(NoMemory) => told.lack(),
+    }
 }
 
 fn add_ruled(
@@ -189,13 +193,14 @@ fn add_ruled(
     pkg: &Pkg,
     flag: &[u8],
     told: &mut Telling,
-) -> Result<(), NoMemory>
+)
     requires { IsOneOf profiles.now states.now }
 {
-    let ruled = RuledFlags::new(alloc, profiles)?;
-    add_states(alloc, &ruled, states, pkg, flag, told);
+    match RuledFlags::new(alloc, profiles) {
+        Ok(ruled) => add_states(alloc, &ruled, states, pkg, flag, told),
+        Err(NoMemory) => told.lack(),
+    }
     add_states(alloc, &RuledFlags::of(profiles), states, pkg, flag, told);
-    Ok(())
 }
 
 fn first(profiles: &[Profile]) -> Option<&Profile>
@@ -248,25 +253,22 @@ fn state_by_kind(
 }
 
 // What is known of the flag where one profile has no rules and another has these.
-fn kinds(
-    alloc: Global,
-    pkg: &Pkg,
-    other: Profile,
-    flag: &[u8],
-    told: &mut Telling,
-) -> Result<(), NoMemory> {
+fn kinds(alloc: Global, pkg: &Pkg, given: &Given, told: &mut Telling) {
     let mut profiles = Profiles::new(alloc);
-    profiles.add(profile(alloc, "")?)?;
-    profiles.add(other)?;
-    let ruled = RuledFlags::new(alloc, profiles.items())?;
-    let asked = RuledFlags::of(profiles.items());
-    tell_kinds(alloc, ruled.kind(pkg, flag), asked.kind(pkg, flag), told);
-    Ok(())
+    told.done(add_profile(alloc, "", &mut profiles));
+    told.done(add_profile(alloc, given.words(2), &mut profiles));
+    add_kinds(alloc, pkg, profiles.items(), given.bytes(3), told);
+}
+
+fn add_kinds(alloc: Global, pkg: &Pkg, profiles: &[Profile], flag: &[u8], told: &mut Telling) {
+    let asked = RuledFlags::of(profiles).kind(pkg, flag);
+    match RuledFlags::new(alloc, profiles) {
+        Ok(ruled) => tell_kinds(alloc, ruled.kind(pkg, flag), asked, told),
+        Err(NoMemory) => told.lack(),
+    }
 }
 
 fn tell_kinds(alloc: Global, by: FlagKind, asked: FlagKind, told: &mut Telling) {
     told.add(kind_text(by));
-    let mut plain = Telling::new(alloc);
-    plain.add(kind_text(asked));
-    told.also(&plain);
+    told.also(&Telling::of(alloc, &[kind_text(asked)]));
 }

@@ -10,26 +10,21 @@ use std::alloc::Global;
 use std::cmp::Ordering;
 
 /// Tells the answer to a call of this library, if it is one.
-pub(crate) fn answer(
-    alloc: Global,
-    call: &str,
-    given: &Given,
-    told: &mut Telling,
-) -> Result<bool, NoMemory> {
+pub(crate) fn answer(alloc: Global, call: &str, given: &Given, told: &mut Telling) -> bool {
     let bytes = given.bytes(0);
     match call {
-        "version" => version(alloc, bytes, told)?,
+        "version" => version(alloc, bytes, told),
         "order" | "revision" | "begins" => both(alloc, call, given, told),
-        "sorted" => sorted(alloc, given, told)?,
+        "sorted" => sorted(alloc, given, told),
         "pf" => pf(bytes, told),
         "category" => told.yes_no(is_category(bytes)),
         "package" => told.yes_no(is_package(bytes)),
         "slot" => told.yes_no(is_slot(bytes)),
         "flag" => told.yes_no(is_flag(bytes)),
         "keyword" => told.yes_no(is_keyword(bytes)),
-        _ => return Ok(false),
+        _ => return false,
     }
-    Ok(true)
+    true
 }
 
 fn fault(fault: VersionFault, told: &mut Telling) {
@@ -45,12 +40,18 @@ fn fault_at(what: &str, at: u32, told: &mut Telling) {
     told.number(u64::from(at));
 }
 
-fn version(alloc: Global, bytes: &[u8], told: &mut Telling) -> Result<(), NoMemory> {
+fn version(alloc: Global, bytes: &[u8], told: &mut Telling) {
     match read_version(alloc, bytes) {
-        Ok(version) => told.add(version.copy(alloc)?.text()),
+        Ok(version) => copied(alloc, &version, told),
         Err(found) => fault(found, told),
     }
-    Ok(())
+}
+
+fn copied(alloc: Global, version: &Version, told: &mut Telling) {
+    match version.copy(alloc) {
+        Ok(version) => told.add(version.text()),
+        Err(_) => told.lack(),
+    }
 }
 
 fn sign(order: Ordering) -> &'static str {
@@ -83,6 +84,7 @@ fn compared(call: &str, a: &Version, b: &Version, told: &mut Telling) {
     }
 }
 
+// Puts the versions of the parts in order, but where one is none.
 fn versions_in(
     alloc: Global,
     given: &Given,
@@ -94,21 +96,24 @@ fn versions_in(
             Err(found) => return Ok(Some(found)),
         }
     }
+    versions.sort()?;
     Ok(None)
 }
 
-fn sorted(alloc: Global, given: &Given, told: &mut Telling) -> Result<(), NoMemory> {
+fn sorted(alloc: Global, given: &Given, told: &mut Telling) {
     let mut versions: Vec<Version> = Vec::new(alloc);
-    if let Some(found) = versions_in(alloc, given, &mut versions)? {
-        fault(found, told);
-        return Ok(());
+    match versions_in(alloc, given, &mut versions) {
+        Ok(None) => add_versions(versions.as_slice(), told),
+        Ok(Some(found)) => fault(found, told),
+        Err(NoMemory) => told.lack(),
     }
-    versions.sort()?;
-    for version in versions.iter() {
+}
+
+fn add_versions(versions: &[Version], told: &mut Telling) {
+    for version in versions {
         told.add(version.text());
         told.add(b";");
     }
-    Ok(())
 }
 
 fn pf(bytes: &[u8], told: &mut Telling) {

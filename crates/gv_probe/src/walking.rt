@@ -22,7 +22,7 @@ pub(crate) fn walked<L: Ledger>(
     given: &Given,
     steps: &mut Steps<L>,
     told: &mut Telling,
-) -> Result<(), NoMemory> {
+) {
     let words = given.words(2);
     let (how, more) = words.split_once(' ').unwrap_or((words, ""));
     let budget = budget(options, given);
@@ -55,10 +55,12 @@ fn walked_own<L: Ledger>(
     budget: u32,
     steps: &mut Steps<L>,
     told: &mut Telling,
-) -> Result<(), NoMemory>
+)
     requires { budget ≤ 1000000 }
 {
-    let own = own(alloc, digits)?;
+    let Ok(own) = own(alloc, digits) else {
+        return told.lack();
+    };
     walked_over(
         alloc,
         repo,
@@ -78,10 +80,12 @@ fn walked_classes<L: Ledger>(
     budget: u32,
     steps: &mut Steps<L>,
     told: &mut Telling,
-) -> Result<(), NoMemory>
+)
     requires { budget ≤ 1000000 }
 {
-    let sets = sets(alloc, words)?;
+    let Ok(sets) = sets(alloc, words) else {
+        return told.lack();
+    };
     walked_over(
         alloc,
         repo,
@@ -136,7 +140,7 @@ fn walked_over<L: Ledger>(
     budget: u32,
     steps: &mut Steps<L>,
     told: &mut Telling,
-) -> Result<(), NoMemory>
+)
     requires { budget ≤ 1000000 }
 {
     let given = Known::new(alloc);
@@ -155,31 +159,38 @@ fn walked_few<'a, L: Ledger>(
     asking: &Asking<'_>,
     steps: &mut Steps<L>,
     told: &mut Telling,
-) -> Result<(), NoMemory> {
-    let walk = Walk::few(alloc, repo, options)?;
+) {
+    let Ok(walk) = Walk::few(alloc, repo, options) else {
+        return told.lack();
+    };
+    judged_by(alloc, options, walk, asking, steps, told);
+}
+
+fn judged_by<L: Ledger>(
+    alloc: Global,
+    options: &Options,
+    walk: Walk<'_>,
+    asking: &Asking<'_>,
+    steps: &mut Steps<L>,
+    told: &mut Telling,
+) {
     match walk.judge(alloc, asking, steps) {
-        Ok(answers) => tell(alloc, options, &answers, told)?,
+        Ok(answers) => tell(alloc, options, answers, told),
         Err(stopped) => {
             told.say("stopped behind ");
             told.number(u64::from(stopped.behind));
         }
     }
-    Ok(())
 }
 
 // How many queries and records there are, how many reports are told without a query and how many with one, and these reports.
-fn tell(
-    alloc: Global,
-    options: &Options,
-    answers: &Answers,
-    told: &mut Telling,
-) -> Result<(), NoMemory> {
+fn tell(alloc: Global, options: &Options, answers: Answers, told: &mut Telling) {
     add_count(answers.queries, " queries, ", told);
     add_count(answers.certs.count(), " records, ", told);
     told.number(answers.plain.items().len() as u64);
     told.say(" told, ");
     told.number(answers.reports.items().len() as u64);
     told.say(" reported\n");
-    printed(alloc, options, &answers.plain, told)?;
-    printed(alloc, options, &answers.reports, told)
+    printed(alloc, options, &answers.plain, told);
+    printed(alloc, options, &answers.reports, told);
 }

@@ -1,24 +1,19 @@
 //! Calls of `gv_words`.
 use crate::given::Given;
 use crate::written::Telling;
-use gv_base::{NoMemory, Texts};
+use gv_base::NoMemory;
 use gv_report::Options;
 use gv_words::{Command, default_options, read_words};
 use std::alloc::Global;
 
 /// Tells the answer to a call of this library, if it is one.
-pub(crate) fn answer(
-    alloc: Global,
-    call: &str,
-    given: &Given,
-    told: &mut Telling,
-) -> Result<bool, NoMemory> {
+pub(crate) fn answer(alloc: Global, call: &str, given: &Given, told: &mut Telling) -> bool {
     match call {
-        "words" => command(alloc, given, told)?,
-        "default-options" => options(alloc, &default_options(alloc)?, told),
-        _ => return Ok(false),
+        "words" => command(alloc, given, told),
+        "default-options" => defaults(alloc, told),
+        _ => return false,
     }
-    Ok(true)
+    true
 }
 
 fn add(told: &mut Telling, word: &[u8]) {
@@ -39,16 +34,23 @@ fn options(alloc: Global, options: &Options, told: &mut Telling) {
     told.number(u64::from(options.budget));
 }
 
-fn command(alloc: Global, given: &Given, told: &mut Telling) -> Result<(), NoMemory> {
-    let mut words = Texts::new(alloc);
-    for part in given.from(0) {
-        words.add(part.copy(alloc)?)?;
+fn defaults(alloc: Global, told: &mut Telling) {
+    match default_options(alloc) {
+        Ok(found) => options(alloc, &found, told),
+        Err(NoMemory) => told.lack(),
     }
-    match read_words(alloc, &words)? {
-        Some(command) => tell(alloc, &command, told),
-        None => told.say("none"),
+}
+
+fn command(alloc: Global, given: &Given, told: &mut Telling) {
+    match command_of(alloc, given) {
+        Ok(Some(command)) => tell(alloc, &command, told),
+        Ok(None) => told.say("none"),
+        Err(NoMemory) => told.lack(),
     }
-    Ok(())
+}
+
+fn command_of(alloc: Global, given: &Given) -> Result<Option<Command>, NoMemory> {
+    read_words(alloc, &given.copy_from(alloc, 0)?)
 }
 
 fn tell(alloc: Global, command: &Command, told: &mut Telling) {

@@ -1,9 +1,9 @@
 //! Answers as they are told, and as they are written in a line.
-use gv_base::{NoMemory, Texts};
+use gv_base::{NoMemory, Text, Texts};
 use std::alloc::{AllocError, Global};
 
 /// An answer that is being told. Where memory is wanted, the rest is passed over, and `bytes` says so at the end: who tells
-/// something has no way out at each word then, and each of them would be proved.
+/// something has no way out at each word then, with the drops of all that it holds, and each of them would be proved.
 #[derive(Drop)]
 pub(crate) struct Telling {
     alloc: Global,
@@ -18,6 +18,15 @@ impl Telling {
             told: Vec::new(alloc),
             is_short: false,
         }
+    }
+
+    /// These pieces.
+    pub(crate) fn of(alloc: Global, pieces: &[&[u8]]) -> Telling {
+        let mut told = Telling::new(alloc);
+        for piece in pieces {
+            told.add(piece);
+        }
+        told
     }
 
     /// All that was told.
@@ -41,6 +50,13 @@ impl Telling {
     /// Notes that memory is wanted.
     pub(crate) fn lack(&mut self) {
         self.is_short = true;
+    }
+
+    /// Notes that memory is wanted, where it was for this.
+    pub(crate) fn done(&mut self, done: Result<(), NoMemory>) {
+        if done.is_err() {
+            self.lack();
+        }
     }
 
     pub(crate) fn add(&mut self, bytes: &[u8]) {
@@ -70,12 +86,25 @@ impl Telling {
         self.formatted(made);
     }
 
-    /// Adds texts with a byte between.
-    pub(crate) fn joined(&mut self, texts: &Texts, between: u8) {
-        match texts.joined(self.alloc, between) {
+    /// Adds what a call gave.
+    pub(crate) fn text(&mut self, text: Result<Text, NoMemory>) {
+        match text {
             Ok(text) => self.add(text.bytes()),
             Err(NoMemory) => self.lack(),
         }
+    }
+
+    /// Adds what a call gave, with a byte between.
+    pub(crate) fn texts(&mut self, texts: Result<Texts, NoMemory>, between: u8) {
+        match texts {
+            Ok(texts) => self.joined(&texts, between),
+            Err(NoMemory) => self.lack(),
+        }
+    }
+
+    /// Adds texts with a byte between.
+    pub(crate) fn joined(&mut self, texts: &Texts, between: u8) {
+        self.text(texts.joined(self.alloc, between));
     }
 
     /// Adds another answer.
@@ -86,11 +115,28 @@ impl Telling {
         self.add(other.told.as_slice());
     }
 
+    /// Whether another answer is the same.
+    pub(crate) fn is(&self, other: &Telling) -> bool {
+        self.told.as_slice() == other.told.as_slice()
+    }
+
     /// Adds another answer behind `; `, unless it is the one that was told.
     pub(crate) fn also(&mut self, other: &Telling) {
-        if self.told.as_slice() != other.told.as_slice() {
+        if !self.is(other) {
             self.add(b"; ");
             self.all_of(other);
+        }
+    }
+
+    /// Adds lines, each behind a mark.
+    pub(crate) fn behind(&mut self, mark: &[u8], lines: &[u8]) {
+        let mut begins = true;
+        for b in lines {
+            if begins {
+                self.add(mark);
+            }
+            self.add(&[*b]);
+            begins = *b == b'\n';
         }
     }
 
