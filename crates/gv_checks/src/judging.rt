@@ -228,9 +228,9 @@ fn judge_kept<L: Ledger>(
         }
         Err(AskFault::NoMemory) => return Err(JudgeFault::NoMemory),
     };
+    let queries = next_number(progress.queries)?;
     let found = &progress.used.found[place];
     let report = report_of(alloc, judged, class, query, found)?;
-    let queries = next_number(progress.queries)?;
     add_report(&mut progress.reports, report)?;
     progress.queries = queries;
     Ok(place)

@@ -66,14 +66,22 @@ fn known_at<F: Fn(&Pkg) -> bool, L: Ledger>(
     };
     let claim = match first_backed(alloc, &lowered.gates, certs) {
         Ok(Some(claim)) => claim,
-        Ok(None) => return Ok(None),
-        Err(NoMemory) => return Err(LowerFault::NoMemory),
+        Ok(None) => {
+            drop(lowered);
+            return Ok(None);
+        }
+        Err(NoMemory) => {
+            drop(lowered);
+            return Err(LowerFault::NoMemory);
+        }
     };
     let answer = Answer {
         claim,
         reused: true,
     };
-    match found_at(alloc, judged, class, &lowered, answer) {
+    let found = found_at(alloc, judged, class, &lowered, answer);
+    drop(lowered);
+    match found {
         Ok(found) => Ok(Some(found)),
         Err(NoMemory) => Err(LowerFault::NoMemory),
     }

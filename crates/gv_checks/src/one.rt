@@ -55,21 +55,35 @@ impl Found1 {
     pub fn copy(&self, alloc: Global) -> Result<Found1, NoMemory>
         ensures { IfOk result (λ found. found ≡ self.now) }
     {
-        let witness = match &self.witness {
-            None => None,
-            Some(witness) => Some(witness.copy(alloc)?),
-        };
-        let report = match &self.report {
-            None => None,
-            Some(report) => Some(report.copy(alloc)?),
-        };
+        let query = self.query.copy(alloc)?;
+        let answer = self.answer.copy(alloc)?;
+        let witness = copied_text(alloc, &self.witness)?;
+        let report = copied_report(alloc, &self.report)?;
         Ok(Found1 {
-            query: self.query.copy(alloc)?,
-            answer: self.answer.copy(alloc)?,
+            query,
+            answer,
             witness,
             report,
             reused: self.reused,
         })
+    }
+}
+
+fn copied_text(alloc: Global, text: &Option<Text>) -> Result<Option<Text>, NoMemory>
+    ensures { IfOk result (λ copy. copy ≡ text.now) }
+{
+    match text {
+        None => Ok(None),
+        Some(text) => Ok(Some(text.copy(alloc)?)),
+    }
+}
+
+fn copied_report(alloc: Global, report: &Option<Report>) -> Result<Option<Report>, NoMemory>
+    ensures { IfOk result (λ copy. copy ≡ report.now) }
+{
+    match report {
+        None => Ok(None),
+        Some(report) => Ok(Some(report.copy(alloc)?)),
     }
 }
 
@@ -159,12 +173,18 @@ fn answer_at<F: Fn(&Pkg) -> bool, L: Ledger>(
     let answer = match answer_of(alloc, &lowered.gates, options.budget, certs, steps) {
         Ok(answer) => answer,
         Err(AskFault::Spent { sets }) => {
+            drop(lowered);
             let name = name_of(judged, class);
             return Err(JudgeFault::Spent { name, sets });
         }
-        Err(AskFault::NoMemory) => return Err(JudgeFault::NoMemory),
+        Err(AskFault::NoMemory) => {
+            drop(lowered);
+            return Err(JudgeFault::NoMemory);
+        }
     };
-    match found_at(alloc, judged, class, &lowered, answer) {
+    let found = found_at(alloc, judged, class, &lowered, answer);
+    drop(lowered);
+    match found {
         Ok(found) => Ok(found),
         Err(NoMemory) => Err(JudgeFault::NoMemory),
     }

@@ -111,8 +111,12 @@ fn recall_by<'a, L: Ledger>(
         queries,
     } = match walk.judge(alloc, &asking, steps) {
         Ok(answers) => answers,
-        Err(Stopped { fault, behind }) => return Err(fault_behind(fault, behind)),
+        Err(Stopped { fault, behind }) => {
+            drop(walk);
+            return Err(fault_behind(fault, behind));
+        }
     };
+    drop(walk);
     let reports = all_reports(alloc, repo, options, plain, asked)?;
     Ok(Recalled {
         reports,

@@ -23,7 +23,7 @@ use gv_facts::{Class, Status};
 use gv_logic::{Bits, Lit, values};
 use gv_lower::{Query, value_law};
 use gv_plain::{JudgedPkg, context_of, subject_of};
-use gv_report::{Keyword, Report};
+use gv_report::{ContextName, Keyword, Report, Subject};
 use std::alloc::Global;
 
 /// The words of the query's flags with these bits, joined by one space.
@@ -170,6 +170,16 @@ fn unmet_text(
     }
 }
 
+// The package and the context that a report is about.
+fn place_of(alloc: Global, judged: &JudgedPkg<'_>) -> Result<(Subject, ContextName), NoMemory>
+    ensures subject { IfOk result (λ place. place.0 ≡ subject_of judged.now.pkg.now) }
+    ensures context { IfOk result (λ place. place.1 ≡ context_of (case_of judged.now).parent) }
+{
+    let context = context_of(alloc, judged)?;
+    let subject = subject_of(alloc, judged.pkg)?;
+    Ok((subject, context))
+}
+
 fn unsatisfiable(alloc: Global, judged: &JudgedPkg<'_>, class: Class) -> Result<Report, NoMemory>
     ensures { IfOk result (λ report. report ≡ unsatisfiable (query_of (case_of judged.now) class)) }
 {
@@ -177,11 +187,12 @@ fn unsatisfiable(alloc: Global, judged: &JudgedPkg<'_>, class: Class) -> Result<
         Some(required) => print_required(alloc, required)?,
         None => Text::of(alloc, b"")?,
     };
+    let (subject, context) = place_of(alloc, judged)?;
     Ok(Report {
-        subject: subject_of(alloc, judged.pkg)?,
+        subject,
         keyword: Keyword::UnsatisfiableRequiredUse,
         class: None,
-        context: Some(context_of(alloc, judged)?),
+        context: Some(context),
         witness: None,
         detail: Some(detail),
     })
@@ -221,12 +232,15 @@ fn nonsolvable(
     requires long { length bits.now ≡ length (flags_of (query_of (case_of judged.now) class)) }
     ensures { IfOk result (λ report. report ≡ nonsolvable (query_of (case_of judged.now) class) dep.now bits.now) }
 {
+    let witness = witness_of(alloc, query, bits)?;
+    let detail = failing_text(alloc, judged, class, dep, query, bits)?;
+    let (subject, context) = place_of(alloc, judged)?;
     Ok(Report {
-        subject: subject_of(alloc, judged.pkg)?,
+        subject,
         keyword: class_keyword(judged.profile.status),
         class: Some(class),
-        context: Some(context_of(alloc, judged)?),
-        witness: Some(witness_of(alloc, query, bits)?),
-        detail: Some(failing_text(alloc, judged, class, dep, query, bits)?),
+        context: Some(context),
+        witness: Some(witness),
+        detail: Some(detail),
     })
 }

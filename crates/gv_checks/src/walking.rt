@@ -108,16 +108,20 @@ impl<'a> Walk<'a> {
             Ok(()) => {}
             Err(fault) => {
                 let behind = going.progress.queries;
+                drop(plain);
+                drop(going);
                 return Err(Stopped { fault, behind });
             }
         }
-        let Going { progress, place: _ } = going;
-        let Progress {
-            used,
-            reports,
-            queries,
-        } = progress;
-        let Used { certs, found: _ } = used;
+        let Going {
+            progress: Progress {
+                used: Used { certs, found },
+                reports,
+                queries,
+            },
+            place: _,
+        } = going;
+        drop(found);
         Ok(Answers {
             plain,
             reports,
@@ -233,7 +237,10 @@ fn judge_pkg<'a, L: Ledger>(
     let repo = walk.repo();
     let sites = PkgSites::new(alloc, walk.ruled(), &repo.pkgs, one.pkg, one.body)?;
     let mut shared = Shared::new(alloc);
-    judge_views(errand, walk.views(), one, &sites, going, &mut shared, steps)
+    let outcome = judge_views(errand, walk.views(), one, &sites, going, &mut shared, steps);
+    drop(shared);
+    drop(sites);
+    outcome
 }
 
 fn judge_views<L: Ledger>(

@@ -87,8 +87,12 @@ fn judge_by<'a, L: Ledger>(
         queries,
     } = match walk.judge(alloc, &asking, steps) {
         Ok(answers) => answers,
-        Err(Stopped { fault, behind: _ }) => return Err(fault),
+        Err(Stopped { fault, behind: _ }) => {
+            drop(walk);
+            return Err(fault);
+        }
     };
+    drop(walk);
     let reports = all_reports(alloc, repo, options, plain, asked)?;
     Ok(Judged {
         reports,
