@@ -110,7 +110,13 @@ fn answers_of<L: Ledger>(
     selected_law();
     gates_law();
     records_law();
-    let judged = judged(alloc, &repo, options, given, steps)?;
+    let judged = match judged(alloc, &repo, options, given, steps) {
+        Ok(judged) => judged,
+        Err(refusal) => {
+            drop(repo);
+            return Err(refusal);
+        }
+    };
     drop(repo);
     let Judged {
         reports,

@@ -68,8 +68,17 @@ fn made<T: Tree>(alloc: Global, options: &Options, tree: &mut T) -> Result<Text,
     ensures calm { OnOk result (T.faults tree.new ≡ T.faults tree.old) }
 {
     let repo = read(alloc, tree)?;
-    let walk = walked(alloc, tree, &repo)?;
-    Ok(lint_text(alloc, options, &repo, &walk)?)
+    let walk = match walked(alloc, tree, &repo) {
+        Ok(walk) => walk,
+        Err(refusal) => {
+            drop(repo);
+            return Err(refusal);
+        }
+    };
+    let text = lint_text(alloc, options, &repo, &walk);
+    drop(walk);
+    drop(repo);
+    Ok(text?)
 }
 
 // The files whose lines are looked at, and the stacks of the profiles.

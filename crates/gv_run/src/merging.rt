@@ -64,7 +64,9 @@ fn merge_root<T: Tree, L: Ledger>(
     ensures unsolved { steps.new.solve ≡ steps.old.solve }
 {
     let repo = read(alloc, tree)?;
-    merged(alloc, &repo, merging, given, steps)
+    let answers = merged(alloc, &repo, merging, given, steps);
+    drop(repo);
+    answers
 }
 
 #[tactic(auto, using(crate::proofs::Parted::unmerged, crate::proofs::Parted::are_merged))]

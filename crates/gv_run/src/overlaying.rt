@@ -115,7 +115,13 @@ fn answers_of<L: Ledger>(
     selected_law();
     gates_law();
     records_law();
-    let judged = judged(alloc, &over, options, given, steps)?;
+    let judged = match judged(alloc, &over, options, given, steps) {
+        Ok(judged) => judged,
+        Err(refusal) => {
+            drop(over);
+            return Err(refusal);
+        }
+    };
     drop(over);
     let Judged {
         reports,

@@ -61,7 +61,9 @@ fn part_file<T: Tree, L: Ledger>(
     ensures later { T.faults tree.old ≤ T.faults tree.new }
 {
     let repo = read(alloc, tree)?;
-    file_of(alloc, &repo, &asked.options, share, given, steps)
+    let file = file_of(alloc, &repo, &asked.options, share, given, steps);
+    drop(repo);
+    file
 }
 
 #[tactic(auto, using(crate::proofs::Parted::part_unjudged, crate::proofs::Parted::is_file_of))]

@@ -57,7 +57,11 @@ fn make_report<T: Tree, L: Ledger>(
     match session.report(tree, steps) {
         Ok(report) => Ok(report),
         Err(SessionFault::Load { fault }) => Err(load_refusal(fault)),
-        Err(SessionFault::Judge { fault, repo }) => Err(judge_refusal(alloc, fault, &repo)),
+        Err(SessionFault::Judge { fault, repo }) => {
+            let refusal = judge_refusal(alloc, fault, &repo);
+            drop(repo);
+            Err(refusal)
+        }
         Err(SessionFault::NoMemory) => Err(Refusal::NoMemory),
     }
 }

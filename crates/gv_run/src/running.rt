@@ -162,8 +162,17 @@ fn perform<T: Tree, K: Store, I: Source, S: Sink, L: Ledger>(
     let Some(command) = read_words(alloc, words)? else {
         return Err(Refusal::BadWords);
     };
-    enter(alloc, &command, tree)?;
-    carry_out(alloc, &command, tree, store, input, out, steps)
+    match enter(alloc, &command, tree) {
+        Ok(()) => {
+            let ending = carry_out(alloc, &command, tree, store, input, out, steps);
+            drop(command);
+            ending
+        }
+        Err(NoMemory) => {
+            drop(command);
+            Err(Refusal::NoMemory)
+        }
+    }
 }
 
 // The folder that a command is of.

@@ -44,13 +44,19 @@ pub(crate) fn serve<T: Tree, I: Source, S: Sink, L: Ledger>(
     let Ok(options) = sitting.options.copy(alloc) else {
         return Err(Refusal::NoMemory);
     };
-    let mut session = Session::start(alloc, options);
     let Ok(mut reader) = ScriptReader::new(alloc) else {
         return Err(Refusal::NoMemory);
     };
+    let mut session = Session::start(alloc, options);
     match serve_script(alloc, &mut session, &mut reader, tree, input, out, steps) {
-        Ok(()) => Ok(false),
-        Err(refusal) => Err(refusal),
+        Ok(()) => {
+            drop(session);
+            Ok(false)
+        }
+        Err(refusal) => {
+            drop(session);
+            Err(refusal)
+        }
     }
 }
 

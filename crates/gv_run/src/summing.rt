@@ -81,9 +81,12 @@ fn drawn(alloc: Global, number: u64) -> Result<Repo, NoMemory>
 {
     let mut tree = MemTree::new(demo_files(alloc, number)?, Calls::new(alloc));
     let Ok(repo) = load(alloc, &mut tree) else {
+        drop(tree);
         return Err(NoMemory);
     };
+    drop(tree);
     if repo.pkgs.items().len() != 1000 {
+        drop(repo);
         return Err(NoMemory);
     }
     Ok(repo)
@@ -117,6 +120,13 @@ fn summary_of<L: Ledger>(alloc: Global, number: u64, steps: &mut Steps<L>) -> Re
 {
     let options = default_options(alloc)?;
     let repo = drawn(alloc, number)?;
-    let text = demo_text(alloc, &repo, &options, steps)?;
+    let text = match demo_text(alloc, &repo, &options, steps) {
+        Ok(text) => text,
+        Err(refused) => {
+            drop(repo);
+            return Err(refused);
+        }
+    };
+    drop(repo);
     summary_text(alloc, &text)
 }

@@ -115,6 +115,15 @@ fn find<T: Tree, K: Store, L: Ledger>(
     ensures unsolved { steps.new.solve ≡ steps.old.solve }
 {
     let evidence = take(alloc, verification, store)?;
-    let repo = read(alloc, tree)?;
-    hold(alloc, &repo, &verification.options, &evidence, steps)
+    let repo = match read(alloc, tree) {
+        Ok(repo) => repo,
+        Err(refusal) => {
+            drop(evidence);
+            return Err(refusal);
+        }
+    };
+    let verdict = hold(alloc, &repo, &verification.options, &evidence, steps);
+    drop(repo);
+    drop(evidence);
+    verdict
 }

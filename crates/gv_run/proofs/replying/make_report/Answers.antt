@@ -10,4 +10,4 @@ returns-in-Ok-clause-sees g c =
 pub returns-in-Err-Judge-clause-cause : goal.returns-in-Err-Judge-clause-cause
 returns-in-Err-Judge-clause-cause g c =
     unjudged c.args.session.now (g.T.Tree.files c.args.tree.now) (g.T.Tree.faults c.args.tree.now) (g.T.Tree.faults c.report.new.tree) c.args.steps.now c.report.new.steps c.in-Err-Judge.fault c.in-Err-Judge.repo _
-    (rw c.in-Err-Judge.field-0-is at c.in-Err-Judge.ensures.cause) c.judge_refusal.ensures
+    (rw c.in-Err-Judge.field-0-is at c.in-Err-Judge.ensures.cause) c.judge_refusal-refusal.ensures

@@ -6,5 +6,5 @@ use Rattle.gv_run.proofs.summing.summary_of.Goals as goal
 pub returns : goal.returns
 returns g c =
     IfOk-weaker c.summary_text.result _ (IsSummary c.args.number)
-    (λ summary made. is_summary c.args.number c.in_ok-options.options c.in_ok-repo.repo c.in_ok-text.text summary c.in_ok-options.ensures c.in_ok-repo.ensures.repo c.in_ok-repo.ensures.packages c.in_ok-text.ensures.queries c.in_ok-text.ensures.text made)
+    (λ summary made. is_summary c.args.number c.in_ok-options.options c.in_ok-repo.repo c.in-Ok.text summary c.in_ok-options.ensures c.in_ok-repo.ensures.repo c.in_ok-repo.ensures.packages c.in-Ok.ensures.queries c.in-Ok.ensures.text made)
     c.summary_text.ensures
