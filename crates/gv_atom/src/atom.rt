@@ -57,25 +57,26 @@ pub enum SlotMark {
     Equals,
 }
 
-/// An atom (PMS chapter 8): which packages it asks for, or blocks, and what it asks of their flags.
+/// An atom (PMS chapter 8): which packages it asks for, or blocks, and what it asks of their flags. The signs stand side by side, since a
+/// repository has hundreds of thousands of atoms and fields lie in the order of the source.
 #[derive(Drop)]
 pub struct Atom {
     /// The signs in front of all, which make it a blocker.
     pub block: Block,
     /// None where a package of any version is asked for.
     pub op: Option<CompareOp>,
+    /// `*` behind the version.
+    pub star: bool,
+    /// The `*`, or the `=` at the end, of the slot part; no match depends on it.
+    pub mark: SlotMark,
     /// The part before the slash.
     pub category: Text,
     /// The package's name, without a version.
     pub name: Text,
     /// There where the operator is.
     pub version: Option<Version>,
-    /// `*` behind the version.
-    pub star: bool,
     /// Which slot, and which sub-slot, the slot part names.
     pub slot: SlotNeed,
-    /// The `*`, or the `=` at the end, of the slot part; no match depends on it.
-    pub mark: SlotMark,
     /// What stands in brackets behind all; no items where there are no brackets.
     pub items: UseItems,
 }
