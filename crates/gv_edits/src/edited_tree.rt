@@ -1,5 +1,5 @@
 //! A tree with edits over it.
-ghost use Rattle.std.specs.Prelude.{◌≡◌, ◌∷◌};
+ghost use Rattle.std.specs.Prelude.{◌≡◌, ◌≤◌, ◌∷◌};
 
 use crate::Edits;
 use crate::listing::list_edited;
@@ -23,6 +23,8 @@ impl<T: Tree> Tree for EditedTree<'_, T> {
     ghost files = { λ t. edited_told (T.files t.tree.now) t.edits.now };
 
     ghost faults = { λ t. T.faults t.tree.now };
+
+    ghost failed_at = { λ t _. 1 ≤ T.faults t.tree.now };
 
     ghost entered = { λ t. T.entered t.tree.now };
 

@@ -32,13 +32,14 @@ stays {at = at} reached paths whole ahead knows indexed ends closed = record {
 }
 
 -- memory was wanted
-pub wants : {before now : View} {old : Seen} (reached : Reached) (whole : Dirs → List (List ℕ)) → now ≡ before → HasStopped before now reached old whole NoMemory
+pub wants : {At : List ℕ → Type 0} {before now : View} {old : Seen} (reached : Reached) (whole : Dirs → List (List ℕ)) → now ≡ before → HasStopped At before now reached old whole NoMemory
 wants {before = before} {now = now} reached whole same = record {
   told = ap (λ (v : View). v.told) same;
   around = ap (λ (v : View). v.around) same;
   later = let e : now.faults ≡ before.faults = ap (λ (v : View). v.faults) same in omega arith;
   cause = λ start so_far. tt;
   asked = λ start so_far. tt;
+  here = tt;
 }
 
 -- ---- two of them
@@ -55,9 +56,9 @@ module _ {before mid now : View} {reached r : Reached} {old m : Seen} {paths : L
         value = λ t. record { ends = (more.value t).ends ∙ (one.value t).ends; closed = λ closed. (more.value t).closed ((one.value t).closed closed) };
       }
 
-  pub stopped_then : {fault : LoadFault} → HasStopped mid now r m (λ dirs. reached_after dirs 0 ahead r.order) fault → HasStopped before now reached old whole fault
-  stopped_then {fault = fault} two =
-      let more = subst (λ (v : View). HasStopped v now r m (λ dirs. reached_after dirs 0 ahead r.order) fault) one.same two in
+  pub stopped_then : {At : List ℕ → Type 0} {fault : LoadFault} → HasStopped At mid now r m (λ dirs. reached_after dirs 0 ahead r.order) fault → HasStopped At before now reached old whole fault
+  stopped_then {At = At} {fault = fault} two =
+      let more = subst (λ (v : View). HasStopped At v now r m (λ dirs. reached_after dirs 0 ahead r.order) fault) one.same two in
       record {
         told = more.told;
         around = more.around;
@@ -66,16 +67,17 @@ module _ {before mid now : View} {reached r : Reached} {old m : Seen} {paths : L
             (λ t. sym (one.value t).ends) (more.cause start (λ t. one.passed start t (so_far t)));
         asked = λ start so_far. asked_whole before.told start (reached_after (dir_at (look_in before.told)) 0 ahead r.order) (whole (dir_at (look_in before.told))) fault
             (λ t. sym (one.value t).ends) (more.asked start (λ t. one.passed start t (so_far t)));
+        here = more.here;
       }
 
-pub wants_then : {before now : View} {reached r : Reached} {old new : Seen} {paths : List (List ℕ)} {whole : Dirs → List (List ℕ)} {ahead : List Ahead} → HasGone before now reached old new paths whole ahead r →
-    HasStopped before now reached old whole NoMemory
+pub wants_then : {At : List ℕ → Type 0} {before now : View} {reached r : Reached} {old new : Seen} {paths : List (List ℕ)} {whole : Dirs → List (List ℕ)} {ahead : List Ahead} → HasGone before now reached old new paths whole ahead r →
+    HasStopped At before now reached old whole NoMemory
 wants_then {reached = reached} {whole = whole} one = wants reached whole one.same
 
 -- the same of the tree as it was
-pub stopped_here : {before mid now : View} {reached : Reached} {old : Seen} {whole : Dirs → List (List ℕ)} {fault : LoadFault} → mid ≡ before → HasStopped mid now reached old whole fault →
-    HasStopped before now reached old whole fault
-stopped_here {now = now} {reached = reached} {old = old} {whole = whole} {fault = fault} same one = subst (λ (v : View). HasStopped v now reached old whole fault) same one
+pub stopped_here : {At : List ℕ → Type 0} {before mid now : View} {reached : Reached} {old : Seen} {whole : Dirs → List (List ℕ)} {fault : LoadFault} → mid ≡ before → HasStopped At mid now reached old whole fault →
+    HasStopped At before now reached old whole fault
+stopped_here {At = At} {now = now} {reached = reached} {old = old} {whole = whole} {fault = fault} same one = subst (λ (v : View). HasStopped At v now reached old whole fault) same one
 
 -- ---- those of a line
 pub closed_all : (dirs : Dirs) (order : List (List ℕ)) → IsClosed dirs order → IsClosedBut dirs order []
@@ -96,5 +98,5 @@ module _ {before now : View} {reached : Reached} {old : Seen} (o : Option (List 
     };
   }
 
-  pub line_stopped : {fault : LoadFault} → HasStopped before now reached old (λ dirs. reach_below dirs 0 reached.order dir) fault → HasStopped before now reached old (λ dirs. from_line dirs reached.order o) fault
-  line_stopped {fault = fault} one = subst (λ (a : Option (List ℕ)). HasStopped before now reached old (λ dirs. from_line dirs reached.order a) fault) (sym is) one
+  pub line_stopped : {At : List ℕ → Type 0} {fault : LoadFault} → HasStopped At before now reached old (λ dirs. reach_below dirs 0 reached.order dir) fault → HasStopped At before now reached old (λ dirs. from_line dirs reached.order o) fault
+  line_stopped {At = At} {fault = fault} one = subst (λ (a : Option (List ℕ)). HasStopped At before now reached old (λ dirs. from_line dirs reached.order a) fault) (sym is) one

@@ -127,7 +127,7 @@ module _ {before now : View} {start : Seen} (none : start ≡ nothing) where
       let here = subst (λ (s : Seen). HasRead before now (λ look. load_steps look) (λ look. IsRepoOf look read) s new) none one in
       subst (λ n. IfSome before.told (λ files. Finds files n)) (sym is) (finds before.told new here.passed)
 
-  pub cause_told : (fault : LoadFault) → HasEnded before now (λ look. load_steps look) start fault → LoadCause before.told before.faults now.faults fault
+  pub cause_told : {At : List ℕ → Type 0} (fault : LoadFault) → HasEnded At before now (λ look. load_steps look) start fault → LoadCause before.told before.faults now.faults fault
   cause_told fault ended =
       load_cause before.told before.faults now.faults fault
       (subst (λ (s : Seen). Cause before.told before.faults now.faults (passed (look_in before.told) s (load_steps (look_in before.told))) fault) none ended.cause)

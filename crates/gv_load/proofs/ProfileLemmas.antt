@@ -64,18 +64,19 @@ module _ {before now : View} {old : Seen} {lines : List DescLine} {r : Reached} 
     value = λ t. says _ (one.value t);
   }
 
-  pub stacks_ended : {mid : Seen} (fault : LoadFault) → HasRead before now (λ look. steps_of look (reached look lines)) (λ look. HasReached look lines r) old mid → LimitIs (first_limit (get r.dirs) lines) fault →
-      HasEnded before now (λ look. profiles_steps look lines) old fault
+  pub stacks_ended : {At : List ℕ → Type 0} {mid : Seen} (fault : LoadFault) → HasRead before now (λ look. steps_of look (reached look lines)) (λ look. HasReached look lines r) old mid → LimitIs (first_limit (get r.dirs) lines) fault →
+      HasEnded At before now (λ look. profiles_steps look lines) old fault
   stacks_ended NoMemory one limit = no_memory one.same
   stacks_ended (Tree path) one limit = absurd limit
   stacks_ended (NotARepository path) one limit = absurd limit
-  stacks_ended {mid = mid} (Limit place number) one limit =
-      let ended = no_memory {before = before} {now = now} {old = old} {steps = λ look. profiles_steps look lines} one.same in
+  stacks_ended {At = At} {mid = mid} (Limit place number) one limit =
+      let ended = no_memory {At = At} {before = before} {now = now} {old = old} {steps = λ look. profiles_steps look lines} one.same in
       record {
         told = ended.told;
         around = ended.around;
         later = ended.later;
         asked = tt;
+        here = tt;
         cause = (
           ap (λ (v : View). v.faults) one.same,
           λ t. passed-append (look_in before.told) old (steps_of (look_in before.told) (reached (look_in before.told) lines)) (stack_steps (dir_at (look_in before.told)) lines)

@@ -27,8 +27,8 @@ pub record HasGone (before now : View) (reached : Reached) (old new : Seen) (pat
   pub dirs : IsTold before.told → KeepsDirs (look_in before.told) reached → KeepsDirs (look_in before.told) r
   pub value : IsTold before.told → LeadsOn (dir_at (look_in before.told)) reached r paths (whole (dir_at (look_in before.told))) ahead
 
--- a step of the whole was refused
-pub record HasStopped (before now : View) (reached : Reached) (old : Seen) (whole : Dirs → List (List ℕ)) (fault : LoadFault) : Type 0 where
+-- a step of the whole was refused, and where the tree's last call that failed was made
+pub record HasStopped (At : List ℕ → Type 0) (before now : View) (reached : Reached) (old : Seen) (whole : Dirs → List (List ℕ)) (fault : LoadFault) : Type 0 where
   pub told : now.told ≡ before.told
   pub around : now.around ≡ before.around
   pub later : before.faults ≤ now.faults
@@ -36,9 +36,10 @@ pub record HasStopped (before now : View) (reached : Reached) (old : Seen) (whol
       → Cause before.told before.faults now.faults (passed (look_in before.told) start (steps_of (look_in before.told) (whole (dir_at (look_in before.told))))) fault
   pub asked : (start : Seen) → (IsTold before.told → passed (look_in before.told) start (steps_of (look_in before.told) reached.order) ≡ Ok old)
       → IsOfPath (λ path. IsTold before.told → IsAsked (look_in before.told) start (steps_of (look_in before.told) (whole (dir_at (look_in before.told)))) path) fault
+  pub here : IsOfPath At fault
 
 -- what reaching the paths comes to, where the whole of it is that, and these parents are ahead afterwards
-abbrev pub Reaches : {T : Type 0} → (T → View) → (before now : T) → (reached : Reached) → (paths : List (List ℕ)) → (whole : Dirs → List (List ℕ)) → (ahead : List Ahead)
+abbrev pub Reaches : {T : Type 0} → (T → List ℕ → Type 0) → (T → View) → (before now : T) → (reached : Reached) → (paths : List (List ℕ)) → (whole : Dirs → List (List ℕ)) → (ahead : List Ahead)
     → (old new : Seen) → Result Reached LoadFault → Type 0
-Reaches see before now reached paths whole ahead old new (Ok r) = HasGone (see before) (see now) reached old new paths whole ahead r
-Reaches see before now reached paths whole ahead old new (Err fault) = HasStopped (see before) (see now) reached old whole fault
+Reaches failed_at see before now reached paths whole ahead old new (Ok r) = HasGone (see before) (see now) reached old new paths whole ahead r
+Reaches failed_at see before now reached paths whole ahead old new (Err fault) = HasStopped (failed_at now) (see before) (see now) reached old whole fault

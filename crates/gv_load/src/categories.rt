@@ -64,7 +64,7 @@ pub(crate) fn list_category<T: Tree>(
     category: &Text,
 ) -> Result<Listing, LoadFault>
     requires { Knows (T.files tree.old) reader.now }
-    ensures reads { Reads (view T.files T.faults T.entered T.lent) tree.old tree.new (λ look. listing_steps look category.now) (λ look listing. HasListed look category.now listing) reader.now reader.now result }
+    ensures reads { Reads T.failed_at (view T.files T.faults T.entered T.lent) tree.old tree.new (λ look. listing_steps look category.now) (λ look listing. HasListed look category.now listing) reader.now reader.now result }
     ensures pfs { IfOk result (λ l. list_all is_pf l.pfs ≡ true) }
 {
     let entries = list_entries(alloc, reader, tree, category)?;
@@ -206,7 +206,7 @@ fn list_ebuilds<T: Tree>(
     pfs: &mut Texts,
 ) -> Result<(), LoadFault>
     requires { Knows (T.files tree.old) reader.now }
-    ensures { Reads (view T.files T.faults T.entered T.lent) tree.old tree.new (λ look. list (within category.now name.now) ∷ []) (λ look _. pfs.new ≡ pfs.old ++ ebuilds_in look category.now name.now) reader.now reader.now result }
+    ensures { Reads T.failed_at (view T.files T.faults T.entered T.lent) tree.old tree.new (λ look. list (within category.now name.now) ∷ []) (λ look _. pfs.new ≡ pfs.old ++ ebuilds_in look category.now name.now) reader.now reader.now result }
 {
     let path = within(alloc, category, name.bytes())?;
     let files = list_at(alloc, reader, tree, &path)?;
@@ -222,7 +222,7 @@ fn list_folders<T: Tree>(
     names: &Texts,
 ) -> Result<Texts, LoadFault>
     requires { Knows (T.files tree.old) reader.now }
-    ensures { Reads (view T.files T.faults T.entered T.lent) tree.old tree.new (λ look. folder_lists category.now names.now) (λ look value. value ≡ flat_map (ebuilds_in look category.now) names.now) reader.now reader.now result }
+    ensures { Reads T.failed_at (view T.files T.faults T.entered T.lent) tree.old tree.new (λ look. folder_lists category.now names.now) (λ look value. value ≡ flat_map (ebuilds_in look category.now) names.now) reader.now reader.now result }
 {
     let mut pfs = Texts::new(alloc);
     for name in names.items() {
@@ -239,7 +239,7 @@ fn list_entries<T: Tree>(
     category: &Text,
 ) -> Result<Texts, LoadFault>
     requires { Knows (T.files tree.old) reader.now }
-    ensures { Reads (view T.files T.faults T.entered T.lent) tree.old tree.new (λ look. list (cache_dir category.now) ∷ []) (λ look value. value ≡ listed look category.now) reader.now reader.now result }
+    ensures { Reads T.failed_at (view T.files T.faults T.entered T.lent) tree.old tree.new (λ look. list (cache_dir category.now) ∷ []) (λ look value. value ≡ listed look category.now) reader.now reader.now result }
 {
     let path = cache_dir(alloc, category)?;
     list_at(alloc, reader, tree, &path)
@@ -253,7 +253,7 @@ fn list_packages<T: Tree>(
     category: &Text,
 ) -> Result<Texts, LoadFault>
     requires { Knows (T.files tree.old) reader.now }
-    ensures { Reads (view T.files T.faults T.entered T.lent) tree.old tree.new (λ look. list category.now ∷ []) (λ look value. value ≡ folders look category.now) reader.now reader.now result }
+    ensures { Reads T.failed_at (view T.files T.faults T.entered T.lent) tree.old tree.new (λ look. list category.now ∷ []) (λ look value. value ≡ folders look category.now) reader.now reader.now result }
 {
     let names = list_at(alloc, reader, tree, category)?;
     Ok(packages_among(alloc, &names)?)

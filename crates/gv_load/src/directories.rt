@@ -56,7 +56,7 @@ pub(crate) fn read_directory<T: Tree>(
 ) -> Result<Option<DirFiles>, LoadFault>
     requires knows { Knows (T.files tree.old) reader.old }
     requires names { names.now ≡ layout }
-    ensures { Reads (view T.files T.faults T.entered T.lent) tree.old tree.new (λ look. dir_steps look dir.now) (λ look value. value ≡ dir_at look dir.now) reader.old reader.new result }
+    ensures { Reads T.failed_at (view T.files T.faults T.entered T.lent) tree.old tree.new (λ look. dir_steps look dir.now) (λ look value. value ≡ dir_at look dir.now) reader.old reader.new result }
 {
     match reader.read(tree, dir)? {
         Found::Dir => Ok(Some(read_inside(alloc, reader, tree, names, dir)?)),
@@ -73,7 +73,7 @@ fn read_bytes<T: Tree>(
     name: &Text,
 ) -> Result<Option<Text>, LoadFault>
     requires knows { Knows (T.files tree.old) reader.old }
-    ensures { Reads (view T.files T.faults T.entered T.lent) tree.old tree.new (λ look. read (within dir.now name.now) ∷ []) (λ look value. value ≡ bytes_at look (within dir.now name.now)) reader.old reader.new result }
+    ensures { Reads T.failed_at (view T.files T.faults T.entered T.lent) tree.old tree.new (λ look. read (within dir.now name.now) ∷ []) (λ look value. value ≡ bytes_at look (within dir.now name.now)) reader.old reader.new result }
 {
     let path = within(alloc, dir, name.bytes())?;
     reader.bytes(tree, &path)
@@ -88,7 +88,7 @@ fn read_head<T: Tree>(
 ) -> Result<Head, LoadFault>
     requires knows { Knows (T.files tree.old) reader.old }
     requires names { names.now ≡ layout }
-    ensures { Reads (view T.files T.faults T.entered T.lent) tree.old tree.new (λ look. head_steps dir.now) (λ look value. value ≡ head_at look dir.now) reader.old reader.new result }
+    ensures { Reads T.failed_at (view T.files T.faults T.entered T.lent) tree.old tree.new (λ look. head_steps dir.now) (λ look value. value ≡ head_at look dir.now) reader.old reader.new result }
 {
     let eapi = read_bytes(alloc, reader, tree, dir, &names.eapi)?;
     let parent = read_bytes(alloc, reader, tree, dir, &names.parent)?;
@@ -109,7 +109,7 @@ fn read_pair<T: Tree>(
     forcing: &Text,
 ) -> Result<Pair, LoadFault>
     requires knows { Knows (T.files tree.old) reader.old }
-    ensures { Reads (view T.files T.faults T.entered T.lent) tree.old tree.new (λ look. pair_steps look dir.now masking.now forcing.now) (λ look value. value ≡ pair_at look dir.now masking.now forcing.now) reader.old reader.new result }
+    ensures { Reads T.failed_at (view T.files T.faults T.entered T.lent) tree.old tree.new (λ look. pair_steps look dir.now masking.now forcing.now) (λ look value. value ≡ pair_at look dir.now masking.now forcing.now) reader.old reader.new result }
 {
     let mask = read_named(alloc, reader, tree, dir, masking)?;
     let force = read_named(alloc, reader, tree, dir, forcing)?;
@@ -125,7 +125,7 @@ fn read_flags<T: Tree>(
 ) -> Result<Flags, LoadFault>
     requires knows { Knows (T.files tree.old) reader.old }
     requires names { names.now ≡ layout }
-    ensures { Reads (view T.files T.faults T.entered T.lent) tree.old tree.new (λ look. flag_steps look dir.now) (λ look value. value ≡ flags_at look dir.now) reader.old reader.new result }
+    ensures { Reads T.failed_at (view T.files T.faults T.entered T.lent) tree.old tree.new (λ look. flag_steps look dir.now) (λ look value. value ≡ flags_at look dir.now) reader.old reader.new result }
 {
     let plain = read_pair(alloc, reader, tree, dir, &names.use_mask, &names.use_force)?;
     let stable = read_pair(
@@ -148,7 +148,7 @@ fn read_packages<T: Tree>(
 ) -> Result<Packages, LoadFault>
     requires knows { Knows (T.files tree.old) reader.old }
     requires names { names.now ≡ layout }
-    ensures { Reads (view T.files T.faults T.entered T.lent) tree.old tree.new (λ look. package_steps look dir.now) (λ look value. value ≡ packages_at look dir.now) reader.old reader.new result }
+    ensures { Reads T.failed_at (view T.files T.faults T.entered T.lent) tree.old tree.new (λ look. package_steps look dir.now) (λ look value. value ≡ packages_at look dir.now) reader.old reader.new result }
 {
     let mask = read_named(alloc, reader, tree, dir, &names.package_mask)?;
     let plain = read_pair(
@@ -183,7 +183,7 @@ fn read_inside<T: Tree>(
 ) -> Result<DirFiles, LoadFault>
     requires knows { Knows (T.files tree.old) reader.old }
     requires names { names.now ≡ layout }
-    ensures { Reads (view T.files T.faults T.entered T.lent) tree.old tree.new (λ look. inside_steps look dir.now) (λ look value. value ≡ dir_files look dir.now) reader.old reader.new result }
+    ensures { Reads T.failed_at (view T.files T.faults T.entered T.lent) tree.old tree.new (λ look. inside_steps look dir.now) (λ look value. value ≡ dir_files look dir.now) reader.old reader.new result }
 {
     let head = read_head(alloc, reader, tree, names, dir)?;
     let flags = read_flags(alloc, reader, tree, names, dir)?;

@@ -87,7 +87,7 @@ pub(crate) fn read_eclasses<T: Tree>(
     names: &Texts,
 ) -> Result<EclassDigests, LoadFault>
     requires knows { Knows (T.files tree.old) reader.old }
-    ensures { Reads (view T.files T.faults T.entered T.lent) tree.old tree.new (λ look. eclass_steps names.now) (λ look digests. KeepsDigests look names.now digests) reader.old reader.new result }
+    ensures { Reads T.failed_at (view T.files T.faults T.entered T.lent) tree.old tree.new (λ look. eclass_steps names.now) (λ look digests. KeepsDigests look names.now digests) reader.old reader.new result }
 {
     let mut digests = EclassDigests::new(alloc);
     for name in names.items() {
@@ -163,7 +163,7 @@ fn read_eclass<T: Tree>(
     digests: &mut EclassDigests,
 ) -> Result<(), LoadFault>
     requires knows { Knows (T.files tree.old) reader.old }
-    ensures { Reads (view T.files T.faults T.entered T.lent) tree.old tree.new (λ look. once (eclass_path name.now) ∷ []) (λ look _. digests.new ≡ digests_with digests.old name.now (eclass_digest look name.now)) reader.old reader.new result }
+    ensures { Reads T.failed_at (view T.files T.faults T.entered T.lent) tree.old tree.new (λ look. once (eclass_path name.now) ∷ []) (λ look _. digests.new ≡ digests_with digests.old name.now (eclass_digest look name.now)) reader.old reader.new result }
 {
     let path = eclass_path(alloc, name)?;
     let digest = digest_once(reader, tree, &path)?;

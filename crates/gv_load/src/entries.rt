@@ -99,7 +99,7 @@ pub(crate) fn read_pfs<T: Tree>(
 ) -> Result<(), LoadFault>
     requires knows { Knows (T.files tree.old) reader.old }
     requires pfs { list_all is_pf pfs.now ≡ true }
-    ensures { Reads (view T.files T.faults T.entered T.lent) tree.old tree.new (λ look. pfs_steps listed.now.keys category.now pfs.now) (λ look _. reads.new ≡ reads.old ++ map (pf_read look listed.now.keys category.now) pfs.now) reader.old reader.new result }
+    ensures { Reads T.failed_at (view T.files T.faults T.entered T.lent) tree.old tree.new (λ look. pfs_steps listed.now.keys category.now pfs.now) (λ look _. reads.new ≡ reads.old ++ map (pf_read look listed.now.keys category.now) pfs.now) reader.old reader.new result }
 {
     for pf in pfs.items() {
         read_next(alloc, reader, tree, listed, category, pf, reads)?;
@@ -116,7 +116,7 @@ pub(crate) fn read_categories<T: Tree>(
     categories: &Texts,
 ) -> Result<PfReads, LoadFault>
     requires knows { Knows (T.files tree.old) reader.old }
-    ensures { Reads (view T.files T.faults T.entered T.lent) tree.old tree.new (λ look. categories_steps look categories.now) (λ look value. value ≡ all_reads look categories.now) reader.old reader.new result }
+    ensures { Reads T.failed_at (view T.files T.faults T.entered T.lent) tree.old tree.new (λ look. categories_steps look categories.now) (λ look value. value ≡ all_reads look categories.now) reader.old reader.new result }
 {
     let mut reads = PfReads::new(alloc);
     for category in categories.items() {
@@ -149,7 +149,7 @@ fn read_there<T: Tree>(
 ) -> Result<Option<Entry>, LoadFault>
     requires knows { Knows (T.files tree.old) reader.old }
     requires pf { is_pf pf.now ≡ true }
-    ensures { Reads (view T.files T.faults T.entered T.lent) tree.old tree.new (λ look. once (entry_path category.now pf.now) ∷ []) (λ look value. value ≡ option_map (entry_of category.now pf.now) (bytes_at look (entry_path category.now pf.now))) reader.old reader.new result }
+    ensures { Reads T.failed_at (view T.files T.faults T.entered T.lent) tree.old tree.new (λ look. once (entry_path category.now pf.now) ∷ []) (λ look value. value ≡ option_map (entry_of category.now pf.now) (bytes_at look (entry_path category.now pf.now))) reader.old reader.new result }
 {
     let path = entry_path(alloc, category, pf)?;
     let bytes = reader.bytes_once(tree, &path)?;
@@ -167,7 +167,7 @@ fn read_listed<T: Tree>(
 ) -> Result<Option<Entry>, LoadFault>
     requires knows { Knows (T.files tree.old) reader.old }
     requires pf { is_pf pf.now ≡ true }
-    ensures { Reads (view T.files T.faults T.entered T.lent) tree.old tree.new (λ look. entry_steps listed.now.keys category.now pf.now) (λ look value. value ≡ entry_at look listed.now.keys category.now pf.now) reader.old reader.new result }
+    ensures { Reads T.failed_at (view T.files T.faults T.entered T.lent) tree.old tree.new (λ look. entry_steps listed.now.keys category.now pf.now) (λ look value. value ≡ entry_at look listed.now.keys category.now pf.now) reader.old reader.new result }
 {
     if !has_key(listed, pf) {
         return Ok(None);
@@ -182,7 +182,7 @@ pub(crate) fn digest_once<T: Tree>(
     path: &Text,
 ) -> Result<Option<[u8; 16]>, LoadFault>
     requires { Knows (T.files tree.old) reader.old }
-    ensures { Reads (view T.files T.faults T.entered T.lent) tree.old tree.new (λ look. once path.now ∷ []) (λ look digest. digest ≡ digest_at look path.now) reader.old reader.new result }
+    ensures { Reads T.failed_at (view T.files T.faults T.entered T.lent) tree.old tree.new (λ look. once path.now ∷ []) (λ look digest. digest ≡ digest_at look path.now) reader.old reader.new result }
 {
     match reader.read_once(tree, path)? {
         Found::File(text) => Ok(Some(digest_of(text.bytes()))),
@@ -200,7 +200,7 @@ fn read_ebuild<T: Tree>(
     pf: &Text,
 ) -> Result<Option<[u8; 16]>, LoadFault>
     requires knows { Knows (T.files tree.old) reader.old }
-    ensures { Reads (view T.files T.faults T.entered T.lent) tree.old tree.new (λ look. once (ebuild_path category.now (name_of pf.now) pf.now) ∷ []) (λ look value. value ≡ digest_at look (ebuild_path category.now (name_of pf.now) pf.now)) reader.old reader.new result }
+    ensures { Reads T.failed_at (view T.files T.faults T.entered T.lent) tree.old tree.new (λ look. once (ebuild_path category.now (name_of pf.now) pf.now) ∷ []) (λ look value. value ≡ digest_at look (ebuild_path category.now (name_of pf.now) pf.now)) reader.old reader.new result }
 {
     let path = ebuild_path_of(alloc, category, pf)?;
     digest_once(reader, tree, &path)
@@ -247,7 +247,7 @@ fn read_pf<T: Tree>(
 ) -> Result<PfRead, LoadFault>
     requires knows { Knows (T.files tree.old) reader.old }
     requires pf { is_pf pf.now ≡ true }
-    ensures { Reads (view T.files T.faults T.entered T.lent) tree.old tree.new (λ look. pf_steps listed.now.keys category.now pf.now) (λ look value. value ≡ pf_read look listed.now.keys category.now pf.now) reader.old reader.new result }
+    ensures { Reads T.failed_at (view T.files T.faults T.entered T.lent) tree.old tree.new (λ look. pf_steps listed.now.keys category.now pf.now) (λ look value. value ≡ pf_read look listed.now.keys category.now pf.now) reader.old reader.new result }
 {
     let entry = read_listed(alloc, reader, tree, listed, category, pf)?;
     let ebuild = match read_ebuild(alloc, reader, tree, category, pf) {
@@ -271,7 +271,7 @@ fn read_next<T: Tree>(
 ) -> Result<(), LoadFault>
     requires knows { Knows (T.files tree.old) reader.old }
     requires pf { is_pf pf.now ≡ true }
-    ensures { Reads (view T.files T.faults T.entered T.lent) tree.old tree.new (λ look. pf_steps listed.now.keys category.now pf.now) (λ look _. reads.new ≡ reads.old ++ pf_read look listed.now.keys category.now pf.now ∷ []) reader.old reader.new result }
+    ensures { Reads T.failed_at (view T.files T.faults T.entered T.lent) tree.old tree.new (λ look. pf_steps listed.now.keys category.now pf.now) (λ look _. reads.new ≡ reads.old ++ pf_read look listed.now.keys category.now pf.now ∷ []) reader.old reader.new result }
 {
     let read = read_pf(alloc, reader, tree, listed, category, pf)?;
     Ok(reads.add(read)?)
@@ -286,7 +286,7 @@ fn read_category<T: Tree>(
     reads: &mut PfReads,
 ) -> Result<(), LoadFault>
     requires knows { Knows (T.files tree.old) reader.old }
-    ensures { Reads (view T.files T.faults T.entered T.lent) tree.old tree.new (λ look. category_steps look category.now) (λ look _. reads.new ≡ reads.old ++ reads_of look category.now) reader.old reader.new result }
+    ensures { Reads T.failed_at (view T.files T.faults T.entered T.lent) tree.old tree.new (λ look. category_steps look category.now) (λ look _. reads.new ≡ reads.old ++ reads_of look category.now) reader.old reader.new result }
 {
     let listing = list_category(alloc, reader, tree, category)?;
     read_pfs(

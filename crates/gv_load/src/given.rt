@@ -49,7 +49,7 @@ pub fn read_given<T: Tree>(
     given: &[Given],
 ) -> Result<GivenRead, LoadFault>
     requires { Knows (T.files tree.old) reader.old }
-    ensures reads { Reads (view T.files T.faults T.entered T.lent) tree.old tree.new (λ look. given_steps look given.now) (λ look value. value ≡ given_read look given.now) reader.old reader.new result }
+    ensures reads { Reads T.failed_at (view T.files T.faults T.entered T.lent) tree.old tree.new (λ look. given_steps look given.now) (λ look value. value ≡ given_read look given.now) reader.old reader.new result }
     ensures order { IfOk result (λ read. AreInPackageOrder read.pkgs) }
     ensures bodies { IfOk result (λ read. length read.bodies ≡ length read.pkgs) }
     ensures classless { IfOk result (λ read. AreClassless read.notes) }
@@ -104,7 +104,7 @@ fn read_category<T: Tree>(
     reads: &mut PfReads,
 ) -> Result<(), LoadFault>
     requires { Knows (T.files tree.old) reader.old }
-    ensures { Reads (view T.files T.faults T.entered T.lent) tree.old tree.new (λ look. steps_in given.now) (λ look _. reads.new ≡ reads.old ++ given_in look given.now) reader.old reader.new result }
+    ensures { Reads T.failed_at (view T.files T.faults T.entered T.lent) tree.old tree.new (λ look. steps_in given.now) (λ look _. reads.new ≡ reads.old ++ given_in look given.now) reader.old reader.new result }
 {
     let pfs = pfs_among(alloc, &given.names)?;
     let listed = set_of(alloc, &pfs)?;
@@ -119,7 +119,7 @@ fn read_all<T: Tree>(
     given: &[Given],
 ) -> Result<PfReads, LoadFault>
     requires { Knows (T.files tree.old) reader.old }
-    ensures { Reads (view T.files T.faults T.entered T.lent) tree.old tree.new (λ look. pf_steps given.now) (λ look value. value ≡ given_reads look given.now) reader.old reader.new result }
+    ensures { Reads T.failed_at (view T.files T.faults T.entered T.lent) tree.old tree.new (λ look. pf_steps given.now) (λ look value. value ≡ given_reads look given.now) reader.old reader.new result }
 {
     let mut reads = PfReads::new(alloc);
     for one in given {

@@ -46,7 +46,7 @@ pub(crate) fn read_profiles<T: Tree>(
     requires names { names.now ≡ layout }
     requires lines { AreNumbered lines.now }
     ensures own { IfOk result (λ p. HaveOwnLines p.profiles) }
-    ensures reads { Reads (view T.files T.faults T.entered T.lent) tree.old tree.new (λ look. profiles_steps look lines.now) (λ look value. value ≡ profiled_of look masks.now lines.now) reader.old reader.new result }
+    ensures reads { Reads T.failed_at (view T.files T.faults T.entered T.lent) tree.old tree.new (λ look. profiles_steps look lines.now) (λ look value. value ≡ profiled_of look masks.now lines.now) reader.old reader.new result }
 {
     let reached = read_dirs(alloc, reader, tree, names, lines)?;
     let folds = fold_lines(alloc, &reached.dirs, masks, lines)?;

@@ -56,7 +56,7 @@ pub(crate) fn read_lists<T: Tree>(
     requires knows { Knows (T.files tree.old) reader.old }
     requires paths { paths.now ≡ top_paths }
     ensures lines { IfOk result (λ lists. AreNumbered lists.lines) }
-    ensures reads { Reads (view T.files T.faults T.entered T.lent) tree.old tree.new (λ look. list_steps look) (λ look value. value ≡ lists_of look) reader.old reader.new result }
+    ensures reads { Reads T.failed_at (view T.files T.faults T.entered T.lent) tree.old tree.new (λ look. list_steps look) (λ look value. value ≡ lists_of look) reader.old reader.new result }
 {
     let desc = reader.need(tree, &paths.desc)?;
     let categories = reader.need(tree, &paths.categories)?;

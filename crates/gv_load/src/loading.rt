@@ -4,7 +4,7 @@
 //! were read, and what folding the stacks costs. Files of profiles are kept until the end; of an entry what it says is
 //! kept, and of ebuilds and eclasses their digests.
 ghost use Rattle.std.specs.Prelude.{◌≡◌, ◌≤◌, Ok, length, IfOk, IfErr, IfSome, OnOk};
-ghost use Rattle.gv_reading.specs.Causes.{Knows, Reads, view};
+ghost use Rattle.gv_reading.specs.Causes.{IsOfPath, Knows, Reads, view};
 ghost use Rattle.gv_load.specs.Loading.{Finds, LoadCause, PassesWithin, loading};
 ghost use Rattle.gv_load.specs.Repository.{AreClassless, AreInPackageOrder, folders_of};
 ghost use Rattle.gv_load.specs.Layout.{layout};
@@ -102,8 +102,8 @@ impl Loaded {
 
 /// The repository that stands in a tree, or the first refusal in reading order.
 ///
-/// `Tree` comes with the path of the call that failed, and only where the tree's count of faults rose: by the clause it is a
-/// path at which a step asks, behind steps that pass. `NotARepository` comes where a list that has to be there is no file;
+/// `Tree` comes with the path of the call that failed, and only where the tree's count of faults rose: a step asks there, behind
+/// steps that pass. `NotARepository` comes where a list that has to be there is no file;
 /// `Limit` with the limit's number where it is passed: a path of more than 4,096 bytes that would be read or listed, a file
 /// of more than 16,777,216 bytes, a file after 400,000 that were found, and a stack of more than 4,096 visits.
 pub fn load<T: Tree>(alloc: Global, tree: &mut T) -> Result<Repo, LoadFault>
@@ -113,6 +113,7 @@ pub fn load<T: Tree>(alloc: Global, tree: &mut T) -> Result<Repo, LoadFault>
     ensures own { IfOk result (λ repo. HaveOwnLines repo.profiles) }
     ensures classless { IfOk result (λ repo. AreClassless repo.notes) }
     ensures cause { IfErr result (LoadCause (T.files tree.old) (T.faults tree.old) (T.faults tree.new)) }
+    ensures here { IfErr result (IsOfPath (T.failed_at tree.new)) }
     ensures files { T.files tree.new ≡ T.files tree.old }
     ensures root { T.entered tree.new ≡ T.entered tree.old }
     ensures lent { T.lent tree.new ≡ T.lent tree.old }
@@ -136,6 +137,7 @@ pub fn load_counted<T: Tree>(alloc: Global, tree: &mut T) -> Result<Loaded, Load
     ensures own { IfOk result (λ loaded. HaveOwnLines loaded.repo.profiles) }
     ensures classless { IfOk result (λ loaded. AreClassless loaded.repo.notes) }
     ensures cause { IfErr result (LoadCause (T.files tree.old) (T.faults tree.old) (T.faults tree.new)) }
+    ensures here { IfErr result (IsOfPath (T.failed_at tree.new)) }
     ensures files { T.files tree.new ≡ T.files tree.old }
     ensures root { T.entered tree.new ≡ T.entered tree.old }
     ensures lent { T.lent tree.new ≡ T.lent tree.old }
@@ -173,7 +175,7 @@ fn read_repo<T: Tree>(
     requires knows { Knows (T.files tree.old) reader.old }
     requires paths { paths.now ≡ top_paths }
     requires names { names.now ≡ layout }
-    ensures reads { Reads (view T.files T.faults T.entered T.lent) tree.old tree.new (λ look. load_steps look) (λ look value. IsRepoOf look value) reader.old reader.new result }
+    ensures reads { Reads T.failed_at (view T.files T.faults T.entered T.lent) tree.old tree.new (λ look. load_steps look) (λ look value. IsRepoOf look value) reader.old reader.new result }
     ensures bodies { IfOk result (λ read. length read.repo.bodies ≡ length read.repo.pkgs) }
     ensures order { IfOk result (λ read. AreInPackageOrder read.repo.pkgs) }
     ensures own { IfOk result (λ read. HaveOwnLines read.repo.profiles) }

@@ -19,7 +19,7 @@ pub(crate) fn read_packages<T: Tree>(
     categories: &Texts,
 ) -> Result<PfsKept, LoadFault>
     requires knows { Knows (T.files tree.old) reader.old }
-    ensures { Reads (view T.files T.faults T.entered T.lent) tree.old tree.new (λ look. packages_steps look categories.now) (λ look value. value ≡ all_kept look categories.now) reader.old reader.new result }
+    ensures { Reads T.failed_at (view T.files T.faults T.entered T.lent) tree.old tree.new (λ look. packages_steps look categories.now) (λ look value. value ≡ all_kept look categories.now) reader.old reader.new result }
 {
     let reads = read_categories(alloc, reader, tree, categories)?;
     let names = eclass_names(alloc, &reads)?;

@@ -54,7 +54,7 @@ pub(crate) fn read_dirs<T: Tree>(
 ) -> Result<Reached, LoadFault>
     requires knows { Knows (T.files tree.old) reader.old }
     requires names { names.now ≡ layout }
-    ensures { Reads (view T.files T.faults T.entered T.lent) tree.old tree.new (λ look. steps_of look (reached_by (dir_at look) [] lines.now)) (λ look reached. HasReached look lines.now reached) reader.old reader.new result }
+    ensures { Reads T.failed_at (view T.files T.faults T.entered T.lent) tree.old tree.new (λ look. steps_of look (reached_by (dir_at look) [] lines.now)) (λ look reached. HasReached look lines.now reached) reader.old reader.new result }
 {
     let mut reached = Reached {
         order: Texts::new(alloc),
@@ -185,7 +185,7 @@ fn visit<T: Tree>(
     requires names { names.now ≡ layout }
     requires indexed { IsIndexed reached }
     requires fresh { has_text reached.order dir ≡ false }
-    ensures reads { Reads (view T.files T.faults T.entered T.lent) tree.old tree.new (λ look. dir_steps look dir) (λ look r. HasVisited (dir_at look) reached dir ahead.old.items ahead.new.items r) reader.old reader.new result }
+    ensures reads { Reads T.failed_at (view T.files T.faults T.entered T.lent) tree.old tree.new (λ look. dir_steps look dir) (λ look r. HasVisited (dir_at look) reached dir ahead.old.items ahead.new.items r) reader.old reader.new result }
     ensures order { IfOk result (λ r. r.order ≡ reached.order ++ dir ∷ []) }
     ensures indexed { IfOk result IsIndexed }
 {
@@ -206,7 +206,7 @@ fn arrive<T: Tree>(
     requires knows { Knows (T.files tree.old) reader.old }
     requires names { names.now ≡ layout }
     requires indexed { IsIndexed reached }
-    ensures { Reaches (view T.files T.faults T.entered T.lent) tree.old tree.new reached (dir ∷ paths_left ahead.old.items) (λ dirs. reached_after dirs 0 ahead.old.items (reach_below dirs (length ahead.old.items) reached.order dir)) ahead.new.items reader.old reader.new result }
+    ensures { Reaches T.failed_at (view T.files T.faults T.entered T.lent) tree.old tree.new reached (dir ∷ paths_left ahead.old.items) (λ dirs. reached_after dirs 0 ahead.old.items (reach_below dirs (length ahead.old.items) reached.order dir)) ahead.new.items reader.old reader.new result }
 {
     if ahead.len() as u64 >= MAX_DEPTH {
         return Err(LoadFault::NoMemory);
@@ -233,7 +233,7 @@ fn go_on<T: Tree>(
     requires knows { Knows (T.files tree.old) reader.old }
     requires names { names.now ≡ layout }
     requires indexed { IsIndexed reached }
-    ensures { Reaches (view T.files T.faults T.entered T.lent) tree.old tree.new reached (paths_left (ahead.old.items ++ rest ∷ [])) (λ dirs. reached_after dirs 0 (ahead.old.items ++ rest ∷ []) reached.order) ahead.new.items reader.old reader.new result }
+    ensures { Reaches T.failed_at (view T.files T.faults T.entered T.lent) tree.old tree.new reached (paths_left (ahead.old.items ++ rest ∷ [])) (λ dirs. reached_after dirs 0 (ahead.old.items ++ rest ∷ []) reached.order) ahead.new.items reader.old reader.new result }
 {
     let Some(path) = rest.paths.items().get(rest.next) else {
         return Ok(reached);
@@ -263,7 +263,7 @@ fn read_from<T: Tree>(
     requires knows { Knows (T.files tree.old) reader.old }
     requires names { names.now ≡ layout }
     requires indexed { IsIndexed reached }
-    ensures { Reaches (view T.files T.faults T.entered T.lent) tree.old tree.new reached (dir ∷ []) (λ dirs. reach_below dirs 0 reached.order dir) [] reader.old reader.new result }
+    ensures { Reaches T.failed_at (view T.files T.faults T.entered T.lent) tree.old tree.new reached (dir ∷ []) (λ dirs. reach_below dirs 0 reached.order dir) [] reader.old reader.new result }
 {
     let mut ahead = Vec::new(alloc);
     let mut now = match arrive(alloc, reader, tree, names, reached, dir, &mut ahead) {
@@ -294,7 +294,7 @@ fn read_line<T: Tree>(
     requires knows { Knows (T.files tree.old) reader.old }
     requires names { names.now ≡ layout }
     requires indexed { IsIndexed reached }
-    ensures { Reaches (view T.files T.faults T.entered T.lent) tree.old tree.new reached [] (λ dirs. from_line dirs reached.order (line_dir line.now)) [] reader.old reader.new result }
+    ensures { Reaches T.failed_at (view T.files T.faults T.entered T.lent) tree.old tree.new reached [] (λ dirs. from_line dirs reached.order (line_dir line.now)) [] reader.old reader.new result }
 {
     match line_dir(alloc, line) {
         Ok(Some(dir)) => match read_from(alloc, reader, tree, names, reached, dir) {

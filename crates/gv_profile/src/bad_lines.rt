@@ -61,10 +61,16 @@ fn bad_mask(alloc: Global, words: &[Text]) -> Result<Option<Bad>, NoMemory>
 {
     match words {
         [] => Ok(None),
-        _ => match mask_in(alloc, words)? {
-            Some(_) => Ok(None),
-            None => Ok(Some(Bad::AtomText)),
-        },
+        _ => {
+            let line = mask_in(alloc, words)?;
+            let is_bad = line.is_none();
+            drop(line);
+            if is_bad {
+                Ok(Some(Bad::AtomText))
+            } else {
+                Ok(None)
+            }
+        }
     }
 }
 

@@ -24,22 +24,23 @@ pub known_once : (at : View) (seen : Seen) (path : List ℕ) (found : Found) →
 known_once at seen path found knows there = record { same = refl; knows = knows; passed = λ t. rw (← there) refl; value = found_before at.told seen path found knows there }
 
 -- a path that was not read before is counted
-pub counted_once : {T : Type 0} (see : T → View) (before now : T) (old new : Seen) (path : List ℕ) (result : Result Found LoadFault) → Knows (see before).told old → None ≡ get old.known path →
+pub counted_once : {T : Type 0} (failed_at : T → List ℕ → Type 0) (see : T → View) (before now : T) (old new : Seen) (path : List ℕ) (result : Result Found LoadFault) → Knows (see before).told old → None ≡ get old.known path →
     IfOk result (λ found. IsTold (see before).told → found ≡ (look_in (see before).told).found path) → OnOk result (new.known ≡ old.known) →
     IfOk result (λ found. IsTold (see before).told → after_new (look_in (see before).told) old path ≡ Ok (with_found old path found new.found)) →
-    IfErr result (Cause (see before).told (see before).faults (see now).faults (after_new (look_in (see before).told) old path)) → IfErr result (IsOfPath (λ p. path ≡ p)) →
+    IfErr result (Cause (see before).told (see before).faults (see now).faults (after_new (look_in (see before).told) old path)) → IfErr result (IsOfPath (λ p. path ≡ p)) → IfErr result (IsOfPath (failed_at now)) →
     (see now).told ≡ (see before).told → (see now).around ≡ (see before).around → (see before).faults ≤ (see now).faults → OnOk result ((see now).faults ≡ (see before).faults) →
-    Reads see before now (λ look. once path ∷ []) (λ look found. found ≡ look.found path) old new result
-counted_once see before now old new path (Ok found) knows fresh is same are cause asked told around later calm = record {
+    Reads failed_at see before now (λ look. once path ∷ []) (λ look found. found ≡ look.found path) old new result
+counted_once failed_at see before now old new path (Ok found) knows fresh is same are cause asked here told around later calm = record {
   same = same_view (see before) (see now) told calm around;
   knows = knows_same (see before).told old new knows same;
   passed = λ t. rw (sym fresh, are t) (ap (λ (m : ByteMap Found). let o : Out = Ok (record { known = m; found = new.found }) in o) (sym same));
   value = is;
 }
-counted_once see before now old new path (Err fault) knows fresh is same are cause asked told around later calm = record {
+counted_once failed_at see before now old new path (Err fault) knows fresh is same are cause asked here told around later calm = record {
   told = told;
   around = around;
   later = later;
   cause = same_cause (see before).told (see before).faults (see now).faults _ _ fault (λ t f at. rw (sym fresh, at) refl) cause;
   asked = path_of_one (see before).told old (once path) fault (same_path fault (λ p is. (is, sym fresh)) asked);
+  here = here;
 }

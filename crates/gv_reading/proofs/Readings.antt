@@ -93,21 +93,22 @@ known_before told seen path knows there t = by (get seen.known path) refl there
     by (Some found) is there = is ∙ ap Some (knows t path found is)
 
 -- ---- names that were listed
-pub listed : {T : Type 0} (see : T → View) (before now : T) (seen : Seen) (path : List ℕ) (result : Result (List (List ℕ)) LoadFault) → Knows (see before).told seen →
+pub listed : {T : Type 0} (failed_at : T → List ℕ → Type 0) (see : T → View) (before now : T) (seen : Seen) (path : List ℕ) (result : Result (List (List ℕ)) LoadFault) → Knows (see before).told seen →
     IfOk result (λ names. IsTold (see before).told → names ≡ (look_in (see before).told).names path) → OnOk result (after_list seen path ≡ Ok seen) →
-    IfErr result (Cause (see before).told (see before).faults (see now).faults (after_list seen path)) → IfErr result (IsOfPath (λ p. path ≡ p)) →
+    IfErr result (Cause (see before).told (see before).faults (see now).faults (after_list seen path)) → IfErr result (IsOfPath (λ p. path ≡ p)) → IfErr result (IsOfPath (failed_at now)) →
     (see now).told ≡ (see before).told → (see now).around ≡ (see before).around → (see before).faults ≤ (see now).faults → OnOk result ((see now).faults ≡ (see before).faults) →
-    Reads see before now (λ look. list path ∷ []) (λ look names. names ≡ look.names path) seen seen result
-listed see before now seen path (Ok names) knows is passed cause asked told around later calm = record {
+    Reads failed_at see before now (λ look. list path ∷ []) (λ look names. names ≡ look.names path) seen seen result
+listed failed_at see before now seen path (Ok names) knows is passed cause asked here told around later calm = record {
   same = same_view (see before) (see now) told calm around;
   knows = knows;
   passed = λ t. rw passed refl;
   value = is;
 }
-listed see before now seen path (Err fault) knows is passed cause asked told around later calm = record {
+listed failed_at see before now seen path (Err fault) knows is passed cause asked here told around later calm = record {
   told = told;
   around = around;
   later = later;
   cause = same_cause (see before).told (see before).faults (see now).faults _ _ fault (λ t f at. rw at refl) cause;
   asked = path_of_one (see before).told seen (list path) fault asked;
+  here = here;
 }

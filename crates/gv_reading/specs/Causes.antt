@@ -65,15 +65,17 @@ pub record HasRead (before now : View) (steps : Look → List Step) (Value : Loo
   pub passed : IsTold before.told → passed (look_in before.told) old (steps (look_in before.told)) ≡ Ok new
   pub value : IsTold before.told → Value (look_in before.told)
 
--- reading ended at a fault, one of the tree where a step asked it that comes behind steps that pass
-pub record HasEnded (before now : View) (steps : Look → List Step) (old : Seen) (fault : LoadFault) : Type 0 where
+-- reading ended at a fault, one of the tree where a step asked it that comes behind steps that pass, and where its last call that failed
+-- was made
+pub record HasEnded (At : List ℕ → Type 0) (before now : View) (steps : Look → List Step) (old : Seen) (fault : LoadFault) : Type 0 where
   pub told : now.told ≡ before.told
   pub around : now.around ≡ before.around
   pub later : before.faults ≤ now.faults
   pub cause : Cause before.told before.faults now.faults (passed (look_in before.told) old (steps (look_in before.told))) fault
   pub asked : IsOfPath (λ path. IsTold before.told → IsAsked (look_in before.told) old (steps (look_in before.told)) path) fault
+  pub here : IsOfPath At fault
 
 -- what a reading by these steps comes to
-abbrev pub Reads : {T V : Type 0} → (T → View) → (before now : T) → (Look → List Step) → (Look → V → Type 0) → (old new : Seen) → Result V LoadFault → Type 0
-Reads see before now steps Value old new (Ok v) = HasRead (see before) (see now) steps (λ look. Value look v) old new
-Reads see before now steps Value old new (Err fault) = HasEnded (see before) (see now) steps old fault
+abbrev pub Reads : {T V : Type 0} → (T → List ℕ → Type 0) → (T → View) → (before now : T) → (Look → List Step) → (Look → V → Type 0) → (old new : Seen) → Result V LoadFault → Type 0
+Reads failed_at see before now steps Value old new (Ok v) = HasRead (see before) (see now) steps (λ look. Value look v) old new
+Reads failed_at see before now steps Value old new (Err fault) = HasEnded (failed_at now) (see before) (see now) steps old fault

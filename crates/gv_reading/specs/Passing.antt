@@ -109,7 +109,7 @@ module _ {before now : View} {old : Seen} where
   }
 
   -- the first of more steps were refused
-  pub ended_first : {xs zs : Look → List Step} {fault : LoadFault} (ys : Look → List Step) → HasEnded before now xs old fault → ((look : Look) → zs look ≡ xs look ++ ys look) → HasEnded before now zs old fault
+  pub ended_first : {At : List ℕ → Type 0} {xs zs : Look → List Step} {fault : LoadFault} (ys : Look → List Step) → HasEnded At before now xs old fault → ((look : Look) → zs look ≡ xs look ++ ys look) → HasEnded At before now zs old fault
   ended_first {xs = xs} {fault = fault} ys one steps = record {
     told = one.told;
     around = one.around;
@@ -117,29 +117,32 @@ module _ {before now : View} {old : Seen} where
     cause = same_cause before.told before.faults now.faults _ _ fault
         (λ t f is. ap (passed (look_in before.told) old) (steps _) ∙ passed-append (look_in before.told) old (xs (look_in before.told)) (ys (look_in before.told)) ∙ rw is refl) one.cause;
     asked = same_path fault (λ path asked t. asked_as (look_in before.told) old _ _ path (steps _) (asked_first (look_in before.told) old (xs (look_in before.told)) (ys (look_in before.told)) path (asked t))) one.asked;
+    here = one.here;
   }
 
-  pub ended_front : {xs : Look → List Step} {fault : LoadFault} (ys : Look → List Step) → HasEnded before now xs old fault → HasEnded before now (λ look. xs look ++ ys look) old fault
+  pub ended_front : {At : List ℕ → Type 0} {xs : Look → List Step} {fault : LoadFault} (ys : Look → List Step) → HasEnded At before now xs old fault → HasEnded At before now (λ look. xs look ++ ys look) old fault
   ended_front ys one = ended_first ys one (λ look. refl)
 
   -- memory was wanted
-  pub no_memory : {steps : Look → List Step} → now ≡ before → HasEnded before now steps old NoMemory
+  pub no_memory : {At : List ℕ → Type 0} {steps : Look → List Step} → now ≡ before → HasEnded At before now steps old NoMemory
   no_memory is = record {
     told = ap (λ (v : View). v.told) is;
     around = ap (λ (v : View). v.around) is;
     later = let e : now.faults ≡ before.faults = ap (λ (v : View). v.faults) is in omega arith;
     cause = tt;
     asked = tt;
+    here = tt;
   }
 
 -- the same steps, said otherwise
-pub ended_as : {before now : View} {old : Seen} {xs ys : Look → List Step} {fault : LoadFault} → HasEnded before now xs old fault → ((look : Look) → ys look ≡ xs look) → HasEnded before now ys old fault
+pub ended_as : {At : List ℕ → Type 0} {before now : View} {old : Seen} {xs ys : Look → List Step} {fault : LoadFault} → HasEnded At before now xs old fault → ((look : Look) → ys look ≡ xs look) → HasEnded At before now ys old fault
 ended_as {before = before} {now = now} {old = old} {fault = fault} one steps = record {
   told = one.told;
   around = one.around;
   later = one.later;
   cause = same_cause before.told before.faults now.faults _ _ fault (λ t f is. ap (passed (look_in before.told) old) (steps _) ∙ is) one.cause;
   asked = same_path fault (λ path asked t. asked_as (look_in before.told) old _ _ path (steps _) (asked t)) one.asked;
+  here = one.here;
 }
 
 -- a path that has to be a file couldn't be read
@@ -147,13 +150,14 @@ refused_read : (o : Out) (fault : LoadFault) → and_then o (λ next. passed-non
 refused_read (Ok seen) fault is = cc
 refused_read (Err f) fault is = is
 
-pub ended_need : {before now : View} {old : Seen} {path : List ℕ} {fault : LoadFault} → HasEnded before now (λ look. read path ∷ []) old fault → HasEnded before now (λ look. need path ∷ []) old fault
+pub ended_need : {At : List ℕ → Type 0} {before now : View} {old : Seen} {path : List ℕ} {fault : LoadFault} → HasEnded At before now (λ look. read path ∷ []) old fault → HasEnded At before now (λ look. need path ∷ []) old fault
 ended_need {before = before} {now = now} {old = old} {path = path} {fault = fault} one = record {
   told = one.told;
   around = one.around;
   later = one.later;
   cause = same_cause before.told before.faults now.faults _ _ fault (λ t f is. rw (refused_read (after_read (look_in before.told) old path) f is) refl) one.cause;
   asked = same_path fault (λ p asked t. asked_alike (look_in before.told) old (read path) (need path) p (λ asks. asks) (asked t)) one.asked;
+  here = one.here;
 }
 
 -- what `?` hands on
@@ -174,10 +178,10 @@ module _ {before mid now : View} {old m : Seen} where
         value = λ t. says _ (one.value t) (more.value t);
       }
 
-  pub ended_then : {xs ys zs : Look → List Step} {P : Look → Type 0} {fault : LoadFault} → HasRead before mid xs P old m → HasEnded mid now ys m fault →
-      ((look : Look) → P look → zs look ≡ xs look ++ ys look) → HasEnded before now zs old fault
-  ended_then {xs = xs} {ys = ys} {fault = fault} one two steps =
-      let more = subst (λ (v : View). HasEnded v now ys m fault) one.same two in
+  pub ended_then : {At : List ℕ → Type 0} {xs ys zs : Look → List Step} {P : Look → Type 0} {fault : LoadFault} → HasRead before mid xs P old m → HasEnded At mid now ys m fault →
+      ((look : Look) → P look → zs look ≡ xs look ++ ys look) → HasEnded At before now zs old fault
+  ended_then {At = At} {xs = xs} {ys = ys} {fault = fault} one two steps =
+      let more = subst (λ (v : View). HasEnded At v now ys m fault) one.same two in
       record {
         told = more.told;
         around = more.around;
@@ -186,20 +190,21 @@ module _ {before mid now : View} {old m : Seen} where
             (λ t f is. ap (passed (look_in before.told) old) (steps _ (one.value t)) ∙ passed-append (look_in before.told) old (xs (look_in before.told)) (ys (look_in before.told)) ∙ rw (one.passed t) is) more.cause;
         asked = same_path fault (λ path asked t. asked_as (look_in before.told) old _ _ path (steps _ (one.value t))
             (asked_behind (look_in before.told) old m (xs (look_in before.told)) (ys (look_in before.told)) path (one.passed t) (asked t))) more.asked;
+        here = more.here;
       }
 
   pub read_both : {new : Seen} {xs ys : Look → List Step} {P Q : Look → Type 0} → HasRead before mid xs P old m → HasRead mid now ys Q m new → HasRead before now (λ look. xs look ++ ys look) (λ look. P look × Q look) old new
   read_both one two = read_then one two (λ look p q. refl) (λ look p q. (p, q))
 
-  pub ended_behind : {xs ys : Look → List Step} {P : Look → Type 0} {fault : LoadFault} → HasRead before mid xs P old m → HasEnded mid now ys m fault → HasEnded before now (λ look. xs look ++ ys look) old fault
+  pub ended_behind : {At : List ℕ → Type 0} {xs ys : Look → List Step} {P : Look → Type 0} {fault : LoadFault} → HasRead before mid xs P old m → HasEnded At mid now ys m fault → HasEnded At before now (λ look. xs look ++ ys look) old fault
   ended_behind one two = ended_then one two (λ look p. refl)
 
 -- what the second one comes to, whatever that is
-pub reads_then : {T V : Type 0} (see : T → View) (ys zs : Look → List Step) (Value End : Look → V → Type 0) {before mid : T} (now : T) {old m : Seen} (new : Seen) {xs : Look → List Step} {P : Look → Type 0} (result : Result V LoadFault)
-    → HasRead (see before) (see mid) xs P old m → Reads see mid now ys Value m new result → ((look : Look) → P look → zs look ≡ xs look ++ ys look) → ((look : Look) (v : V) → P look → Value look v → End look v)
-    → Reads see before now zs End old new result
-reads_then see ys zs Value End now new (Ok v) one two steps says = read_then one two (λ look p q. steps look p) (λ look p q. says look v p q)
-reads_then see ys zs Value End now new (Err fault) one two steps says = ended_then one two steps
+pub reads_then : {T V : Type 0} (failed_at : T → List ℕ → Type 0) (see : T → View) (ys zs : Look → List Step) (Value End : Look → V → Type 0) {before mid : T} (now : T) {old m : Seen} (new : Seen) {xs : Look → List Step} {P : Look → Type 0} (result : Result V LoadFault)
+    → HasRead (see before) (see mid) xs P old m → Reads failed_at see mid now ys Value m new result → ((look : Look) → P look → zs look ≡ xs look ++ ys look) → ((look : Look) (v : V) → P look → Value look v → End look v)
+    → Reads failed_at see before now zs End old new result
+reads_then failed_at see ys zs Value End now new (Ok v) one two steps says = read_then one two (λ look p q. steps look p) (λ look p q. says look v p q)
+reads_then failed_at see ys zs Value End now new (Err fault) one two steps says = ended_then one two steps
 
 -- ---- over a list
 module _ {X : Type 0} where
@@ -245,9 +250,9 @@ module _ {before mid now : View} {start old : Seen} {left one all : Look → Lis
         value = λ t. says _ (amid.value t) (more.value t);
       }
 
-  pub amid_ended : {fault : LoadFault} (behind : Look → List Step) → IsAmid before mid start old left all P → HasEnded mid now one old fault → ((look : Look) → left look ≡ one look ++ behind look) → HasEnded before now all start fault
-  amid_ended {fault = fault} behind amid here steps =
-      let more = subst (λ (v : View). HasEnded v now one old fault) amid.same here in
+  pub amid_ended : {At : List ℕ → Type 0} {fault : LoadFault} (behind : Look → List Step) → IsAmid before mid start old left all P → HasEnded At mid now one old fault → ((look : Look) → left look ≡ one look ++ behind look) → HasEnded At before now all start fault
+  amid_ended {At = At} {fault = fault} behind amid here steps =
+      let more = subst (λ (v : View). HasEnded At v now one old fault) amid.same here in
       record {
         told = more.told;
         around = more.around;
@@ -257,6 +262,7 @@ module _ {before mid now : View} {start old : Seen} {left one all : Look → Lis
             ∙ ap (λ (o : Out). and_then o (λ n. passed (look_in before.told) n (behind (look_in before.told)))) is) more.cause;
         asked = same_path fault (λ path is t. amid.asked t path (asked_as (look_in before.told) old _ _ path (steps _)
             (asked_first (look_in before.told) old (one (look_in before.told)) (behind (look_in before.told)) path (is t)))) more.asked;
+        here = more.here;
       }
 
 pub amid_end : {before now : View} {start old : Seen} {left all : Look → List Step} {P Q : Look → Type 0} → IsAmid before now start old left all P → ((look : Look) → left look ≡ []) →

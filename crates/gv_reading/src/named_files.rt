@@ -23,7 +23,7 @@ pub fn read_files<T: Tree>(
     path: &Text,
 ) -> Result<NamedFiles, LoadFault>
     requires { Knows (T.files tree.old) reader.old }
-    ensures { Reads (view T.files T.faults T.entered T.lent) tree.old tree.new (λ look. file_steps look path.now) (λ look named. named ≡ files_at look path.now) reader.old reader.new result }
+    ensures { Reads T.failed_at (view T.files T.faults T.entered T.lent) tree.old tree.new (λ look. file_steps look path.now) (λ look named. named ≡ files_at look path.now) reader.old reader.new result }
 {
     match reader.read(tree, path)? {
         Found::File(bytes) => Ok(one(alloc, path, bytes)?),
@@ -41,7 +41,7 @@ pub fn read_named<T: Tree>(
     name: &Text,
 ) -> Result<NamedFiles, LoadFault>
     requires { Knows (T.files tree.old) reader.old }
-    ensures { Reads (view T.files T.faults T.entered T.lent) tree.old tree.new (λ look. file_steps look (within dir.now name.now)) (λ look named. named ≡ files_at look (within dir.now name.now)) reader.old reader.new result }
+    ensures { Reads T.failed_at (view T.files T.faults T.entered T.lent) tree.old tree.new (λ look. file_steps look (within dir.now name.now)) (λ look named. named ≡ files_at look (within dir.now name.now)) reader.old reader.new result }
 {
     let path = within(alloc, dir, name.bytes())?;
     read_files(alloc, reader, tree, &path)
@@ -97,7 +97,7 @@ fn read_name<T: Tree>(
     files: &mut NamedFiles,
 ) -> Result<(), LoadFault>
     requires { Knows (T.files tree.old) reader.old }
-    ensures { Reads (view T.files T.faults T.entered T.lent) tree.old tree.new (λ look. read (within dir.now name.now) ∷ []) (λ look _. files.new ≡ files.old ++ plain_file (within dir.now name.now) (look.found (within dir.now name.now))) reader.old reader.new result }
+    ensures { Reads T.failed_at (view T.files T.faults T.entered T.lent) tree.old tree.new (λ look. read (within dir.now name.now) ∷ []) (λ look _. files.new ≡ files.old ++ plain_file (within dir.now name.now) (look.found (within dir.now name.now))) reader.old reader.new result }
 {
     let path = within(alloc, dir, name.bytes())?;
     let found = reader.read(tree, &path)?;
@@ -113,7 +113,7 @@ fn read_names<T: Tree>(
     names: &Texts,
 ) -> Result<NamedFiles, LoadFault>
     requires { Knows (T.files tree.old) reader.old }
-    ensures { Reads (view T.files T.faults T.entered T.lent) tree.old tree.new (λ look. name_steps dir.now names.now) (λ look named. named ≡ folder_files look dir.now names.now) reader.old reader.new result }
+    ensures { Reads T.failed_at (view T.files T.faults T.entered T.lent) tree.old tree.new (λ look. name_steps dir.now names.now) (λ look named. named ≡ folder_files look dir.now names.now) reader.old reader.new result }
 {
     let mut files = NamedFiles::new(alloc);
     for name in names.items() {
@@ -130,7 +130,7 @@ fn read_folder<T: Tree>(
     path: &Text,
 ) -> Result<NamedFiles, LoadFault>
     requires { Knows (T.files tree.old) reader.old }
-    ensures { Reads (view T.files T.faults T.entered T.lent) tree.old tree.new (λ look. folder_steps look path.now Found.Dir) (λ look named. named ≡ files_as look path.now Found.Dir) reader.old reader.new result }
+    ensures { Reads T.failed_at (view T.files T.faults T.entered T.lent) tree.old tree.new (λ look. folder_steps look path.now Found.Dir) (λ look named. named ≡ files_as look path.now Found.Dir) reader.old reader.new result }
 {
     let listed = list_at(alloc, reader, tree, path)?;
     let names = counted(alloc, &listed)?;

@@ -115,6 +115,7 @@ impl Reader {
         ensures knows { OnOk result (Knows (T.files tree.old) self.new) }
         ensures cause { IfErr result (Cause (T.files tree.old) (T.faults tree.old) (T.faults tree.new) (after_read (look_in (T.files tree.old)) self.old path.now)) }
         ensures asked { IfErr result (IsOfPath (Asks self.old (read path.now))) }
+        ensures here { IfErr result (IsOfPath (T.failed_at tree.new)) }
         ensures files { T.files tree.new ≡ T.files tree.old }
         ensures around { around (T.entered tree.new) (T.lent tree.new) ≡ around (T.entered tree.old) (T.lent tree.old) }
         ensures later { T.faults tree.old ≤ T.faults tree.new }
@@ -131,7 +132,7 @@ impl Reader {
     /// What stands at a path, which is read at most once.
     pub fn read<T: Tree>(&mut self, tree: &mut T, path: &Text) -> Result<Found, LoadFault>
         requires { Knows (T.files tree.old) self.old }
-        ensures { Reads (view T.files T.faults T.entered T.lent) tree.old tree.new (λ look. read path.now ∷ []) (λ look found. found ≡ look.found path.now) self.old self.new result }
+        ensures { Reads T.failed_at (view T.files T.faults T.entered T.lent) tree.old tree.new (λ look. read path.now ∷ []) (λ look found. found ≡ look.found path.now) self.old self.new result }
     {
         self.learn(tree, path)?;
         let alloc = self.alloc;
@@ -144,7 +145,7 @@ impl Reader {
     /// The bytes of a path, none where it is no file.
     pub fn bytes<T: Tree>(&mut self, tree: &mut T, path: &Text) -> Result<Option<Text>, LoadFault>
         requires { Knows (T.files tree.old) self.old }
-        ensures { Reads (view T.files T.faults T.entered T.lent) tree.old tree.new (λ look. read path.now ∷ []) (λ look bytes. bytes ≡ bytes_in (look.found path.now)) self.old self.new result }
+        ensures { Reads T.failed_at (view T.files T.faults T.entered T.lent) tree.old tree.new (λ look. read path.now ∷ []) (λ look bytes. bytes ≡ bytes_in (look.found path.now)) self.old self.new result }
     {
         match self.read(tree, path)? {
             Found::File(text) => Ok(Some(text)),
@@ -156,7 +157,7 @@ impl Reader {
     /// The bytes of a path that has to be a file.
     pub fn need<T: Tree>(&mut self, tree: &mut T, path: &Text) -> Result<Text, LoadFault>
         requires { Knows (T.files tree.old) self.old }
-        ensures { Reads (view T.files T.faults T.entered T.lent) tree.old tree.new (λ look. need path.now ∷ []) (λ look bytes. bytes ≡ text_at look path.now) self.old self.new result }
+        ensures { Reads T.failed_at (view T.files T.faults T.entered T.lent) tree.old tree.new (λ look. need path.now ∷ []) (λ look bytes. bytes ≡ text_at look path.now) self.old self.new result }
     {
         match self.read(tree, path)? {
             Found::File(text) => Ok(text),
@@ -182,6 +183,7 @@ impl Reader {
         ensures passed { IfOk result (λ found. IsTold (T.files tree.old) → after_new (look_in (T.files tree.old)) self.old path.now ≡ Ok (with_found self.old path.now found self.new.found)) }
         ensures cause { IfErr result (Cause (T.files tree.old) (T.faults tree.old) (T.faults tree.new) (after_new (look_in (T.files tree.old)) self.old path.now)) }
         ensures asked { IfErr result (IsOfPath (λ p. path.now ≡ p)) }
+        ensures here { IfErr result (IsOfPath (T.failed_at tree.new)) }
         ensures files { T.files tree.new ≡ T.files tree.old }
         ensures around { around (T.entered tree.new) (T.lent tree.new) ≡ around (T.entered tree.old) (T.lent tree.old) }
         ensures later { T.faults tree.old ≤ T.faults tree.new }
@@ -196,7 +198,7 @@ impl Reader {
     /// What stands at a path that no later step reads: it is counted, and isn't kept.
     pub fn read_once<T: Tree>(&mut self, tree: &mut T, path: &Text) -> Result<Found, LoadFault>
         requires { Knows (T.files tree.old) self.old }
-        ensures { Reads (view T.files T.faults T.entered T.lent) tree.old tree.new (λ look. once path.now ∷ []) (λ look found. found ≡ look.found path.now) self.old self.new result }
+        ensures { Reads T.failed_at (view T.files T.faults T.entered T.lent) tree.old tree.new (λ look. once path.now ∷ []) (λ look found. found ≡ look.found path.now) self.old self.new result }
     {
         match self.known_at(path)? {
             Some(found) => Ok(found),
@@ -211,7 +213,7 @@ impl Reader {
         path: &Text,
     ) -> Result<Option<Text>, LoadFault>
         requires { Knows (T.files tree.old) self.old }
-        ensures { Reads (view T.files T.faults T.entered T.lent) tree.old tree.new (λ look. once path.now ∷ []) (λ look bytes. bytes ≡ bytes_at look path.now) self.old self.new result }
+        ensures { Reads T.failed_at (view T.files T.faults T.entered T.lent) tree.old tree.new (λ look. once path.now ∷ []) (λ look bytes. bytes ≡ bytes_at look path.now) self.old self.new result }
     {
         match self.read_once(tree, path)? {
             Found::File(text) => Ok(Some(text)),
@@ -229,7 +231,7 @@ pub fn list_at<T: Tree>(
     path: &Text,
 ) -> Result<Texts, LoadFault>
     requires { Knows (T.files tree.old) reader.now }
-    ensures { Reads (view T.files T.faults T.entered T.lent) tree.old tree.new (λ look. list path.now ∷ []) (λ look value. value ≡ look.names path.now) reader.now reader.now result }
+    ensures { Reads T.failed_at (view T.files T.faults T.entered T.lent) tree.old tree.new (λ look. list path.now ∷ []) (λ look value. value ≡ look.names path.now) reader.now reader.now result }
 {
     list_names(alloc, tree, path)
 }
@@ -240,6 +242,7 @@ fn list_names<T: Tree>(alloc: Global, tree: &mut T, path: &Text) -> Result<Texts
     ensures passed { (seen : Seen) → OnOk result (after_list seen path.now ≡ Ok seen) }
     ensures cause { (seen : Seen) → IfErr result (Cause (T.files tree.old) (T.faults tree.old) (T.faults tree.new) (after_list seen path.now)) }
     ensures asked { IfErr result (IsOfPath (λ p. path.now ≡ p)) }
+    ensures here { IfErr result (IsOfPath (T.failed_at tree.new)) }
     ensures files { T.files tree.new ≡ T.files tree.old }
     ensures around { around (T.entered tree.new) (T.lent tree.new) ≡ around (T.entered tree.old) (T.lent tree.old) }
     ensures later { T.faults tree.old ≤ T.faults tree.new }
@@ -282,6 +285,7 @@ fn read_new<T: Tree>(alloc: Global, tree: &mut T, path: &Text) -> Result<Found, 
     ensures small { IfOk result (HasAtMost most_file_bytes) }
     ensures cause { (seen : Seen) → IfErr result (Cause (T.files tree.old) (T.faults tree.old) (T.faults tree.new) (after_new (look_in (T.files tree.old)) seen path.now)) }
     ensures asked { IfErr result (IsOfPath (λ p. path.now ≡ p)) }
+    ensures here { IfErr result (IsOfPath (T.failed_at tree.new)) }
     ensures files { T.files tree.new ≡ T.files tree.old }
     ensures around { around (T.entered tree.new) (T.lent tree.new) ≡ around (T.entered tree.old) (T.lent tree.old) }
     ensures later { T.faults tree.old ≤ T.faults tree.new }

@@ -21,7 +21,7 @@ pub(crate) fn read_edited<T: Tree>(
     paths: &[Text],
 ) -> Result<GivenRead, LoadFault>
     requires knows { Knows (T.files tree.old) reader.old }
-    ensures reads { Reads (view T.files T.faults T.entered T.lent) tree.old tree.new (λ look. edited_steps look paths.now categories.now) (λ look value. value ≡ read_of look paths.now categories.now) reader.old reader.new result }
+    ensures reads { Reads T.failed_at (view T.files T.faults T.entered T.lent) tree.old tree.new (λ look. edited_steps look paths.now categories.now) (λ look value. value ≡ read_of look paths.now categories.now) reader.old reader.new result }
     ensures order { IfOk result (λ read. AreInPackageOrder read.pkgs) }
     ensures bodies { IfOk result (λ read. length read.bodies ≡ length read.pkgs) }
     ensures classless { IfOk result (λ read. AreClassless read.notes) }

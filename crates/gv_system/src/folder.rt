@@ -1,5 +1,5 @@
 //! A folder of the system as a tree.
-ghost use Rattle.std.specs.Prelude.{◌≡◌, ◌≤◌, [], None, Some};
+ghost use Rattle.std.specs.Prelude.{◌≡◌, ◌≤◌, [], IfSome, None, Some};
 ghost use Rattle.gv_base.specs.Causes.{Rose};
 
 use crate::reading::{look, names};
@@ -8,12 +8,13 @@ use gv_base::{Found, NoMemory, Text, Texts, Tree, TreeFault};
 use std::alloc::Global;
 use std::rt::Files;
 
-/// A folder of the system.
+/// A folder of the system. The path of the last call that failed is noted, where memory is there for it.
 #[derive(Drop)]
 pub struct FsTree<R: Files + AllocGlobal + Clone + Drop> {
     rt: R,
     root: Text,
     faults: u64,
+    failed: Option<Text>,
 }
 
 impl<R: Files + AllocGlobal + Clone + Drop> FsTree<R> {
@@ -27,17 +28,20 @@ impl<R: Files + AllocGlobal + Clone + Drop> FsTree<R> {
             rt,
             root,
             faults: 0,
+            failed: None,
         }
     }
 
-    // Counts a fault.
-    fn failed(&mut self) -> TreeFault
+    // Counts a fault, and notes where it was.
+    fn failed(&mut self, alloc: Global, path: &Text) -> TreeFault
         ensures fault { result ≡ TreeFault.Failed }
         ensures rose { Rose self.old.faults self.new.faults }
+        ensures noted { IfSome self.new.failed (λ noted. noted ≡ path.now) }
         ensures later { self.old.faults ≤ self.new.faults }
         ensures root { self.new.root ≡ self.old.root }
     {
         self.faults = self.faults.saturating_add(1);
+        self.failed = path.copy(alloc).ok();
         TreeFault::Failed
     }
 }
@@ -62,6 +66,8 @@ impl<R: Files + AllocGlobal + Clone + Drop> Tree for FsTree<R> {
 
     ghost faults = { λ t. t.faults };
 
+    ghost failed_at = { λ t path. IfSome t.failed (λ failed. failed ≡ path) };
+
     ghost entered = { λ t. Some t.root };
 
     ghost lent = { λ _. [] };
@@ -81,7 +87,7 @@ impl<R: Files + AllocGlobal + Clone + Drop> Tree for FsTree<R> {
             Err(Trouble::NotThere) => Ok(Found::Absent),
             Err(Trouble::TooLarge) => Err(TreeFault::TooLarge),
             Err(Trouble::NoMemory) => Err(TreeFault::NoMemory),
-            Err(_) => Err(self.failed()),
+            Err(_) => Err(self.failed(alloc, path)),
         }
     }
 
@@ -94,7 +100,7 @@ impl<R: Files + AllocGlobal + Clone + Drop> Tree for FsTree<R> {
             Ok(names) => Ok(names),
             Err(Trouble::NotThere) => Ok(Texts::new(alloc)),
             Err(Trouble::NoMemory) => Err(TreeFault::NoMemory),
-            Err(_) => Err(self.failed()),
+            Err(_) => Err(self.failed(alloc, path)),
         }
     }
 }

@@ -191,7 +191,7 @@ stayed {at = at} {seen = seen} t dir knows was = record {
 }
 
 -- the same steps, said otherwise
-pub ended_as : {before now : View} {old : Seen} {fault : LoadFault} {xs ys : Look → List Step} → HasEnded before now xs old fault → ((look : Look) → ys look ≡ xs look) → HasEnded before now ys old fault
+pub ended_as : {At : List ℕ → Type 0} {before now : View} {old : Seen} {fault : LoadFault} {xs ys : Look → List Step} → HasEnded At before now xs old fault → ((look : Look) → ys look ≡ xs look) → HasEnded At before now ys old fault
 ended_as {ys = ys} one steps = ended_first (λ look. []) one (λ look. steps look ∙ sym (append-nil _))
 
 -- ---- from the beginning
@@ -265,7 +265,7 @@ module _ {before now : View} {first : Seen} (starts : List (List ℕ)) (none : f
       IfSome before.told (λ m. are_all (look_of m) starts ≡ true)
   all_told files one = all_in before.told starts (λ t. (one.value t).1)
 
-  pub cause_told : (fault result : LoadFault) → ((result ≡ fault) × IsNoNeed fault) ⊎ (result ≡ NoMemory) → HasEnded before now (λ look. line_steps look starts) first fault →
+  pub cause_told : {At : List ℕ → Type 0} (fault result : LoadFault) → ((result ≡ fault) × IsNoNeed fault) ⊎ (result ≡ NoMemory) → HasEnded At before now (λ look. line_steps look starts) first fault →
       LinesCause before.told before.faults now.faults starts result
   cause_told fault result handed ended =
       lines_cause before.told before.faults now.faults starts fault

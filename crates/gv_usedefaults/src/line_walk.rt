@@ -200,7 +200,7 @@ fn read_plain<T: Tree>(
     path: &Text,
 ) -> Result<NamedFiles, LoadFault>
     requires { Knows (T.files tree.old) reader.old }
-    ensures { Reads (view T.files T.faults T.entered T.lent) tree.old tree.new (λ look. read path.now ∷ []) (λ look named. named ≡ plain_file path.now (look.found path.now)) reader.old reader.new result }
+    ensures { Reads T.failed_at (view T.files T.faults T.entered T.lent) tree.old tree.new (λ look. read path.now ∷ []) (λ look named. named ≡ plain_file path.now (look.found path.now)) reader.old reader.new result }
 {
     let found = reader.read(tree, path)?;
     Ok(plain_file(alloc, path, found)?)
@@ -229,7 +229,7 @@ fn read_path<T: Tree>(
     path: &Text,
 ) -> Result<NamedFiles, LoadFault>
     requires { Knows (T.files tree.old) reader.old }
-    ensures { Reads (view T.files T.faults T.entered T.lent) tree.old tree.new (λ look. path_steps look plain path.now) (λ look named. named ≡ path_files look plain path.now) reader.old reader.new result }
+    ensures { Reads T.failed_at (view T.files T.faults T.entered T.lent) tree.old tree.new (λ look. path_steps look plain path.now) (λ look named. named ≡ path_files look plain path.now) reader.old reader.new result }
 {
     if plain {
         read_plain(alloc, reader, tree, path)
@@ -248,7 +248,7 @@ fn read_kind<T: Tree>(
     files: &mut Vec<LineFile>,
 ) -> Result<(), LoadFault>
     requires { Knows (T.files tree.old) reader.old }
-    ensures { Reads (view T.files T.faults T.entered T.lent) tree.old tree.new (λ look. kind_steps look dir.now kind.now) (λ look _. files.new.items ≡ files.old.items ++ kind_files look dir.now kind.now) reader.old reader.new result }
+    ensures { Reads T.failed_at (view T.files T.faults T.entered T.lent) tree.old tree.new (λ look. kind_steps look dir.now kind.now) (λ look _. files.new.items ≡ files.old.items ++ kind_files look dir.now kind.now) reader.old reader.new result }
 {
     let path = within(alloc, dir, kind_name(*kind))?;
     let named = read_path(alloc, reader, tree, is_plain(*kind), &path)?;
@@ -264,7 +264,7 @@ fn read_kinds<T: Tree>(
     files: &mut Vec<LineFile>,
 ) -> Result<(), LoadFault>
     requires { Knows (T.files tree.old) reader.old }
-    ensures { Reads (view T.files T.faults T.entered T.lent) tree.old tree.new (λ look. kinds_steps look dir.now kinds.now) (λ look _. files.new.items ≡ files.old.items ++ kinds_files look dir.now kinds.now) reader.old reader.new result }
+    ensures { Reads T.failed_at (view T.files T.faults T.entered T.lent) tree.old tree.new (λ look. kinds_steps look dir.now kinds.now) (λ look _. files.new.items ≡ files.old.items ++ kinds_files look dir.now kinds.now) reader.old reader.new result }
 {
     for kind in kinds {
         read_kind(alloc, reader, tree, dir, kind, files)?;
@@ -281,7 +281,7 @@ fn read_parent<T: Tree>(
     files: &mut Vec<LineFile>,
 ) -> Result<Texts, LoadFault>
     requires { Knows (T.files tree.old) reader.old }
-    ensures { Reads (view T.files T.faults T.entered T.lent) tree.old tree.new (λ look. kind_steps look dir.now FileKind.Parent)
+    ensures { Reads T.failed_at (view T.files T.faults T.entered T.lent) tree.old tree.new (λ look. kind_steps look dir.now FileKind.Parent)
         (λ look paths. (files.new.items ≡ files.old.items ++ kind_files look dir.now FileKind.Parent) × (paths ≡ parents_at look dir.now)) reader.old reader.new result }
 {
     let path = within(alloc, dir, kind_name(FileKind::Parent))?;
@@ -312,7 +312,7 @@ fn read_dir<T: Tree>(
     files: &mut Vec<LineFile>,
 ) -> Result<Texts, LoadFault>
     requires { Knows (T.files tree.old) reader.old }
-    ensures { Reads (view T.files T.faults T.entered T.lent) tree.old tree.new (λ look. dir_line_steps look dir.now)
+    ensures { Reads T.failed_at (view T.files T.faults T.entered T.lent) tree.old tree.new (λ look. dir_line_steps look dir.now)
         (λ look paths. (files.new.items ≡ files.old.items ++ dir_line_files look dir.now) × (paths ≡ parents_at look dir.now)) reader.old reader.new result }
 {
     let paths = read_parent(alloc, reader, tree, dir, files)?;
@@ -375,7 +375,7 @@ fn enter<T: Tree>(
 ) -> Result<Turning, LoadFault>
     requires knows { Knows (T.files tree.old) reader.old }
     requires indexed { IsTurning turning }
-    ensures reads { Reads (view T.files T.faults T.entered T.lent) tree.old tree.new (λ look. dir_line_steps look dir) (λ look t. HasEntered look turning dir t) reader.old reader.new result }
+    ensures reads { Reads T.failed_at (view T.files T.faults T.entered T.lent) tree.old tree.new (λ look. dir_line_steps look dir) (λ look t. HasEntered look turning dir t) reader.old reader.new result }
     ensures order { IfOk result (λ t. t.order ≡ turning.order ++ dir ∷ []) }
     ensures indexed { IfOk result IsTurning }
 {
@@ -405,7 +405,7 @@ fn turn<T: Tree>(
 ) -> Result<Turning, LoadFault>
     requires knows { Knows (T.files tree.old) reader.old }
     requires indexed { IsTurning turning }
-    ensures reads { Reads (view T.files T.faults T.entered T.lent) tree.old tree.new (λ look. turn_steps look turning.order dir) (λ look t. HasTurned look turning dir t) reader.old reader.new result }
+    ensures reads { Reads T.failed_at (view T.files T.faults T.entered T.lent) tree.old tree.new (λ look. turn_steps look turning.order dir) (λ look t. HasTurned look turning dir t) reader.old reader.new result }
     ensures indexed { IfOk result IsTurning }
 {
     if has_key(&turning.set, &dir) {
@@ -433,7 +433,7 @@ fn read_ahead<T: Tree>(
 ) -> Result<Vec<LineFile>, LoadFault>
     requires knows { Knows (T.files tree.old) reader.old }
     requires indexed { IsTurning turning }
-    ensures { Reads (view T.files T.faults T.entered T.lent) tree.old tree.new
+    ensures { Reads T.failed_at (view T.files T.faults T.entered T.lent) tree.old tree.new
         (λ look. dirs_steps look (to_come most_turns (parents_at look) turning.order (ahead_of turning)))
         (λ look files. (files.items ≡ turning.files.items ++ dirs_files look (to_come most_turns (parents_at look) turning.order (ahead_of turning)))
         × (comes_to_end most_turns (parents_at look) turning.order (ahead_of turning) ≡ true)) reader.old reader.new result }
@@ -476,7 +476,7 @@ fn read_lines<T: Tree>(
     starts: &Texts,
 ) -> Result<Vec<LineFile>, LoadFault>
     requires { Knows (T.files tree.old) reader.old }
-    ensures { Reads (view T.files T.faults T.entered T.lent) tree.old tree.new (λ look. line_steps look starts.now) (λ look files. (files.items ≡ line_files look starts.now) × (are_all look starts.now ≡ true)) reader.old reader.new result }
+    ensures { Reads T.failed_at (view T.files T.faults T.entered T.lent) tree.old tree.new (λ look. line_steps look starts.now) (λ look files. (files.items ≡ line_files look starts.now) × (are_all look starts.now ≡ true)) reader.old reader.new result }
 {
     let path = mask_path(alloc)?;
     let top = top_dir(alloc)?;

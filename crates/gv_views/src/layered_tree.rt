@@ -28,6 +28,8 @@ impl<T: Tree> Tree for LayeredTree<'_, T> {
 
     ghost faults = { λ t. T.faults t.tree.now };
 
+    ghost failed_at = { λ t _. 1 ≤ T.faults t.tree.now };
+
     ghost entered = { λ t. T.entered t.tree.now };
 
     ghost lent = { λ t. (t.tree.ghost_name, T.files t.tree.now) ∷ T.lent t.tree.now };

@@ -1,7 +1,7 @@
 //! A tree that notes the path of the call that failed.
 //!
 //! A call costs what that of the tree below costs, and one that fails a copy of the path.
-ghost use Rattle.std.specs.Prelude.{◌≡◌, ◌≤◌, ◌∷◌, IfOk, OnOk, IsErrOf};
+ghost use Rattle.std.specs.Prelude.{◌≡◌, ◌≤◌, ◌∷◌, IfOk, IfSome, OnOk, IsErrOf};
 ghost use Rattle.gv_base.specs.Causes.{Rose};
 
 use gv_base::{Found, NoMemory, Text, Texts, Tree, TreeFault};
@@ -21,6 +21,8 @@ impl<T: Tree> Tree for NotingTree<'_, T> {
     ghost files = { λ t. T.files t.tree.now };
 
     ghost faults = { λ t. T.faults t.tree.now };
+
+    ghost failed_at = { λ t path. IfSome t.failed.now (λ failed. failed ≡ path) };
 
     ghost entered = { λ t. T.entered t.tree.now };
 
@@ -51,7 +53,9 @@ impl<T: Tree> Tree for NotingTree<'_, T> {
     }
 }
 
-fn note(alloc: Global, failed: &mut Option<Text>, path: &Text, fault: TreeFault) {
+fn note(alloc: Global, failed: &mut Option<Text>, path: &Text, fault: TreeFault)
+    ensures { fault ≡ TreeFault.Failed → IfSome failed.new (λ noted. noted ≡ path.now) }
+{
     if fault == TreeFault::Failed {
         *failed = path.copy(alloc).ok();
     }

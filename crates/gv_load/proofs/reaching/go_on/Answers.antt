@@ -71,4 +71,5 @@ returns-in-Err g c =
           (λ t. sym (ap (λ (p : List ℕ). reached_after dirs 0 c.push.new.self.items (reach_below dirs (length c.push.new.self.items) c.args.reached.order p)) c.in-Ok.ensures
           ∙ next_path dirs c.args.ahead.now.items c.push.new.self.items c.args.rest c.args.reached.order c.in-Some.path.now there c.in-Ok-push.ensures.items))
           (one.asked start so_far);
+      here = one.here;
     }

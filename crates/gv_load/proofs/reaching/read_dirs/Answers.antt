@@ -64,6 +64,7 @@ returns-in_err-reached g c =
       later = more.later;
       cause = line_refused told told refl _ _ _ refl c.args.reader.now old.order lines (drop i lines) (drop (i + 1) lines) line _ next inv.order (more.cause c.args.reader.now inv.passed);
       asked = asked_line told c.args.reader.now old.order lines (drop i lines) (drop (i + 1) lines) line _ next inv.order (more.asked c.args.reader.now inv.passed);
+      here = more.here;
     })
 
 pub returns : goal.returns

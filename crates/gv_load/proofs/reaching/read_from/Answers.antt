@@ -17,7 +17,7 @@ loop-init g c =
 pub returns-in-Err : goal.returns-in-Err
 returns-in-Err g c =
     let see = view g.T.Tree.files g.T.Tree.faults g.T.Tree.entered g.T.Tree.lent in
-    subst (λ (as_ : List Ahead). HasStopped (see c.args.tree.now) (see c.arrive.new.tree) c.args.reached c.args.reader.now (λ dirs. reached_after dirs 0 as_ (reach_below dirs (length as_) c.args.reached.order c.args.dir)) c.in-Err.fault)
+    subst (λ (as_ : List Ahead). HasStopped (g.T.Tree.failed_at c.arrive.new.tree) (see c.args.tree.now) (see c.arrive.new.tree) c.args.reached c.args.reader.now (λ dirs. reached_after dirs 0 as_ (reach_below dirs (length as_) c.args.reached.order c.args.dir)) c.in-Err.fault)
     c.new-ahead.ensures.items c.in-Err.ensures
 
 pub loop-preserved : goal.loop-preserved

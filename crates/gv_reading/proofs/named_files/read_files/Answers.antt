@@ -16,7 +16,7 @@ returns-in_err-bytes g c =
 pub returns-in-Dir : goal.returns-in-Dir
 returns-in-Dir g c =
     let path = c.args.path.now in
-    reads_then (view g.T.Tree.files g.T.Tree.faults g.T.Tree.entered g.T.Tree.lent) (λ look. folder_steps look path Dir) (λ look. file_steps look path)
+    reads_then g.T.Tree.failed_at (view g.T.Tree.files g.T.Tree.faults g.T.Tree.entered g.T.Tree.lent) (λ look. folder_steps look path Dir) (λ look. file_steps look path)
     (λ look (named : List NamedFile). named ≡ files_as look path Dir) (λ look (named : List NamedFile). named ≡ files_at look path) c.read_folder.new.tree c.read_folder.new.reader c.read_folder.result c.in_ok-bytes.ensures c.read_folder.ensures
     (λ look is. ap (λ (f : Found). read path ∷ folder_steps look path f) (sym is ∙ c.in-Dir.is))
     (λ look named is said. said ∙ ap (files_as look path) (sym (sym is ∙ c.in-Dir.is)))

@@ -16,7 +16,7 @@ pub returns : goal.returns
 returns g c =
     let path = c.args.path.now in
     let names = c.in_ok-names.names in
-    reads_then (view g.T.Tree.files g.T.Tree.faults g.T.Tree.entered g.T.Tree.lent) (λ look. name_steps path names) (λ look. folder_steps look path Dir)
+    reads_then g.T.Tree.failed_at (view g.T.Tree.files g.T.Tree.faults g.T.Tree.entered g.T.Tree.lent) (λ look. name_steps path names) (λ look. folder_steps look path Dir)
     (λ look (named : List NamedFile). named ≡ folder_files look path names) (λ look (named : List NamedFile). named ≡ folder_files look path (folder_names look path)) c.read_names.new.tree c.read_names.new.reader c.read_names.result c.in_ok-listed.ensures c.read_names.ensures
     (λ look is. ap (λ (ns : List (List ℕ)). list path ∷ name_steps path ns) (sym (c.in_ok-names.ensures ∙ ap (filter counts) is)))
     (λ look named is said. said ∙ ap (folder_files look path) (c.in_ok-names.ensures ∙ ap (filter counts) is))

@@ -12,4 +12,5 @@ returns-in_err-learn g c =
       later = said.later;
       cause = same_cause _ _ _ _ _ _ (λ t f at. rw at refl) said.cause;
       asked = path_of_one _ c.args.self.now (read c.args.path.now) _ said.asked;
+      here = said.here;
     })

@@ -9,5 +9,5 @@ returns-in-Some g c = known_once _ c.args.self.now c.args.path.now _ c.requires 
 pub returns-in-None : goal.returns-in-None
 returns-in-None g c =
     let said = c.count.ensures in
-    counted_once (view g.T.Tree.files g.T.Tree.faults g.T.Tree.entered g.T.Tree.lent) c.args.tree.now c.count.new.tree c.args.self.now c.count.new.self c.args.path.now c.count.result c.requires
-    (sym c.in-None.is ∙ c.in_ok-found.ensures) said.found said.known said.passed said.cause said.asked said.files said.around said.later said.calm
+    counted_once g.T.Tree.failed_at (view g.T.Tree.files g.T.Tree.faults g.T.Tree.entered g.T.Tree.lent) c.args.tree.now c.count.new.tree c.args.self.now c.count.new.self c.args.path.now c.count.result c.requires
+    (sym c.in-None.is ∙ c.in_ok-found.ensures) said.found said.known said.passed said.cause said.asked said.here said.files said.around said.later said.calm
