@@ -5,6 +5,7 @@ use Rattle.std.specs.Hash.FoldHasher.{initial, write, finish}
 use Rattle.std.specs.Map.{lookup}
 use Rattle.std.specs.Option.{option_map_or}
 use Rattle.std.specs.Ordering.{nat_cmp}
+use Rattle.std.specs.Rc.{rc_slice_items}
 use Rattle.std.specs.Str.{bytes_eq}
 use Rattle.gv_base.specs.ByteMap.{has_bytes}
 use Rattle.gv_cert.specs.declared.index.Alike.{Alike}
@@ -26,7 +27,7 @@ numbers_in queries query = unwrap_or (lookup (has_bytes query) queries.map.entri
 
 -- the same, among those of one hash
 abbrev pub numbers_among : Alike → List ℕ → List ℕ
-numbers_among alike query = if bytes_eq query alike.query then alike.numbers else numbers_in alike.others query
+numbers_among alike query = if bytes_eq query (rc_slice_items alike.query) then alike.numbers else numbers_in alike.others query
 
 -- queries are kept by what std's hasher makes of their bytes; any number that depends on these alone would do
 unfoldable pub hash_of : List ℕ → ℕ

@@ -2,18 +2,20 @@
 //! several queries have, over the queries but the first of them.
 //!
 //! A look-up takes no memory and costs O(bytes of the query), O(log n) comparisons of numbers for n distinct queries, and one
-//! comparison of queries where no other has the query's hash. An addition costs as much, and copies a query the first time
-//! that it comes. Whoever writes a file picks its queries, and may pick such as have one hash, whose seed is fixed: then
+//! comparison of queries where no other has the query's hash. An addition costs as much, and copies a query that isn't the first
+//! of its hash the first time that it comes; the first is shared. Whoever writes a file picks its queries, and may pick such as have one hash, whose seed is fixed: then
 //! O(log n) queries are compared.
 ghost use Rattle.std.specs.Prelude.{◌≡◌, ◌++◌, ◌∷◌, [], ℕ, List, if◌then◌else◌, IfOk, OnOk, OnErr};
+ghost use Rattle.std.specs.Rc.{rc_slice_items};
 ghost use Rattle.std.specs.Str.{bytes_eq};
 ghost use Rattle.gv_cert.specs.Index.{hash_of, numbers_among, numbers_at, numbers_in};
 
-use gv_base::{NoMemory, Text};
+use gv_base::NoMemory;
 use std::alloc::Global;
 use std::collections::BTreeMap;
 use std::hash::{FoldHasher, Hasher};
 use std::marker::Model;
+use std::rc::RcSlice;
 
 /// Numbers of records, from 0.
 #[derive(Drop)]
@@ -101,19 +103,19 @@ impl Queries {
 /// many.
 #[derive(Drop)]
 pub(crate) struct Alike {
-    query: Text,
+    query: RcSlice<u8>,
     numbers: Numbers,
     others: Queries,
 }
 
 impl Alike {
-    fn new(alloc: Global, query: &[u8], number: u32) -> Result<Alike, NoMemory>
-        ensures { IfOk result (λ alike. (q : List ℕ) → numbers_among alike q ≡ (if bytes_eq q query.now then number ∷ [] else [])) }
+    fn new(alloc: Global, query: &RcSlice<u8>, number: u32) -> Result<Alike, NoMemory>
+        ensures { IfOk result (λ alike. (q : List ℕ) → numbers_among alike q ≡ (if bytes_eq q (rc_slice_items query.now) then number ∷ [] else [])) }
     {
         let mut numbers = Numbers::new(alloc);
         numbers.add(number)?;
         Ok(Alike {
-            query: Text::of(alloc, query)?,
+            query: query.clone()?,
             numbers,
             others: Queries::new(alloc),
         })
@@ -122,7 +124,7 @@ impl Alike {
     fn at(&self, query: &[u8]) -> &[u32]
         ensures { result.now ≡ numbers_among self.now query.now }
     {
-        if query == self.query.bytes() {
+        if query == self.query.as_slice() {
             self.numbers.items()
         } else {
             self.others.at(query)
@@ -134,7 +136,7 @@ impl Alike {
         ensures ok { OnOk result ((q : List ℕ) → numbers_among self.new q ≡ (if bytes_eq q query.now then numbers_among self.old q ++ number ∷ [] else numbers_among self.old q)) }
         ensures err { OnErr result ((q : List ℕ) → numbers_among self.new q ≡ numbers_among self.old q) }
     {
-        if query == self.query.bytes() {
+        if query == self.query.as_slice() {
             self.numbers.add(number)
         } else {
             self.others.add(query, number)
@@ -171,13 +173,14 @@ impl Index {
     }
 
     /// Adds a number at a query. After an error the numbers are as before.
-    pub(crate) fn add(&mut self, query: &[u8], number: u32) -> Result<(), NoMemory>
-        ensures ok { OnOk result ((q : List ℕ) → numbers_at self.new q ≡ (if bytes_eq q query.now then numbers_at self.old q ++ number ∷ [] else numbers_at self.old q)) }
+    pub(crate) fn add(&mut self, query: &RcSlice<u8>, number: u32) -> Result<(), NoMemory>
+        ensures ok { OnOk result ((q : List ℕ) → numbers_at self.new q ≡ (if bytes_eq q (rc_slice_items query.now) then numbers_at self.old q ++ number ∷ [] else numbers_at self.old q)) }
         ensures err { OnErr result ((q : List ℕ) → numbers_at self.new q ≡ numbers_at self.old q) }
     {
-        let hash = hash_of(query);
+        let bytes = query.as_slice();
+        let hash = hash_of(bytes);
         match self.by_hash.get_mut(&hash) {
-            Some(alike) => alike.add(query, number)?,
+            Some(alike) => alike.add(bytes, number)?,
             None => {
                 let alike = Alike::new(self.alloc, query, number)?;
                 self.by_hash.insert(hash, alike)?;

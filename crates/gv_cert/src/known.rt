@@ -1,6 +1,6 @@
 //! Records of query bytes and answer bytes.
 //!
-//! `insert` copies both, and the query once more for the index where it is new there; `find` costs O(bytes of the query),
+//! `insert` copies both, and shares the query with the index; `find` costs O(bytes of the query),
 //! O(log n) comparisons of numbers for n distinct queries, one of queries and O(log n) more among those of one hash, and a
 //! binary search among the numbers of the query's records. The rest costs O(1), and `append` and a copy what is copied.
 ghost use Rattle.std.specs.Prelude.{◌≡◌, ◌+◌, nat_lt, ◌<◌, ◌^◌, List, [], ◌∷◌, ◌++◌, length, filter, IfOk, OnOk, OnErr};
@@ -12,20 +12,22 @@ use crate::index::Index;
 use gv_base::{NoMemory, Text};
 use std::alloc::Global;
 use std::marker::Model;
+use std::rc::RcSlice;
 
 // A record as it is kept.
 #[derive(Drop)]
 pub(crate) struct Kept {
-    query: Text,
+    query: RcSlice<u8>,
     answer: Text,
 }
 
 impl Model for Kept {
     ghost use Rattle.gv_cert.specs.Known.{KnownRecord};
+    ghost use Rattle.std.specs.Rc.{rc_slice_items};
 
     ghost Value = { KnownRecord };
 
-    ghost view = { λ k. record { query = k.query; answer = k.answer } };
+    ghost view = { λ k. record { query = rc_slice_items k.query; answer = k.answer } };
 }
 
 /// Records of query bytes and answer bytes, in order, numbered from 0; at most `2^32 - 1`. A query may stand in several
@@ -83,11 +85,14 @@ impl Known {
         ensures ok { OnOk result (self.new ≡ self.old ++ record { query = query.now; answer = answer } ∷ []) }
         ensures err { OnErr result (self.new ≡ self.old) }
     {
-        let kept = kept_of(self.alloc, query, answer)?;
+        let shared = RcSlice::from_slice(self.alloc, query)?;
         self.records.reserve(1)?;
         let number = next_number(self.records.len())?;
-        self.by_query.add(query, number)?;
-        self.records.push_reserved(kept);
+        self.by_query.add(&shared, number)?;
+        self.records.push_reserved(Kept {
+            query: shared,
+            answer,
+        });
         Ok(())
     }
 
@@ -117,7 +122,7 @@ impl Known {
         ensures { result.now ≡ (record_at self.now number).query }
     {
         let kept = &self.records[number as usize];
-        kept.query.bytes()
+        kept.query.as_slice()
     }
 
     /// The answer of the record of this number.
@@ -147,13 +152,6 @@ impl Known {
         known.append(self)?;
         Ok(known)
     }
-}
-
-fn kept_of(alloc: Global, query: &[u8], answer: Text) -> Result<Kept, NoMemory>
-    ensures { IfOk result (λ kept. kept ≡ record { query = query.now; answer = answer }) }
-{
-    let query = Text::of(alloc, query)?;
-    Ok(Kept { query, answer })
 }
 
 // The number of the next record of a list with so many.
