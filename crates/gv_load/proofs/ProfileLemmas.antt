@@ -70,7 +70,7 @@ module _ {before now : View} {old : Seen} {lines : List DescLine} {r : Reached} 
   stacks_ended (Tree path) one limit = absurd limit
   stacks_ended (NotARepository path) one limit = absurd limit
   stacks_ended {At = At} {mid = mid} (Limit place number) one limit =
-      let ended = no_memory {At = At} {before = before} {now = now} {old = old} {steps = λ look. profiles_steps look lines} one.same in
+      let ended = no_memory {before = before} {now = now} {old = old} {At = At} {steps = λ look. profiles_steps look lines} one.same in
       record {
         told = ended.told;
         around = ended.around;

@@ -1,11 +1,12 @@
 //! The lists at the top of a repository and its own masks (PMS chapter 4). O(bytes), and the categories are sorted.
-ghost use Rattle.std.specs.Prelude.{◌≡◌, ◌++◌, IfOk, OnOk, option_to_list};
+ghost use Rattle.std.specs.Prelude.{◌≡◌, ◌++◌, IfOk, OnOk};
 ghost use Rattle.gv_load.specs.Categories.{category_in, categories_in};
 ghost use Rattle.gv_reading.specs.Causes.{Knows, Reads, view};
 ghost use Rattle.gv_load.specs.Notes.{bad_category, category_detail, category_notes, is_bad_category};
 ghost use Rattle.gv_load.specs.Order.{list_steps};
 ghost use Rattle.gv_load.specs.OwnLines.{AreNumbered};
 ghost use Rattle.gv_load.specs.PartsRead.{lists_of, lists_with, top_paths};
+ghost use Rattle.gv_profile.specs.Lines.{line_words};
 
 use crate::paths::{categories_path, mask_path};
 use gv_base::{Cut, NoMemory, Text, Texts, Tree, next_number, next_piece};
@@ -150,20 +151,18 @@ fn category_detail(alloc: Global) -> Result<Text, NoMemory>
     Text::of(alloc, b"bad category")
 }
 
-fn note_category(
-    alloc: Global,
-    notes: &mut PlaceNotes,
-    line: u32,
-    words: &[Text],
-) -> Result<(), NoMemory>
-    ensures { OnOk result (notes.new ≡ notes.old ++ option_to_list (bad_category line words.now)) }
+fn bad_category(alloc: Global, line: u32, piece: &[u8]) -> Result<Option<PlaceNote>, NoMemory>
+    ensures { IfOk result (λ note. note ≡ bad_category line (line_words piece.now)) }
 {
-    if is_bad_category(words) {
-        let path = categories_path(alloc)?;
-        let detail = category_detail(alloc)?;
-        notes.add(PlaceNote { path, line, detail })?;
+    let words = line_words(alloc, piece)?;
+    let is_bad = is_bad_category(words.items());
+    drop(words);
+    if !is_bad {
+        return Ok(None);
     }
-    Ok(())
+    let path = categories_path(alloc)?;
+    let detail = category_detail(alloc)?;
+    Ok(Some(PlaceNote { path, line, detail }))
 }
 
 fn category_notes(alloc: Global, bytes: &[u8]) -> Result<PlaceNotes, NoMemory>
@@ -173,8 +172,10 @@ fn category_notes(alloc: Global, bytes: &[u8]) -> Result<PlaceNotes, NoMemory>
     let mut rest = Some(bytes);
     let mut line = 1u32;
     while let Some(piece) = next_piece(&mut rest, Cut::Lines) {
-        let words = line_words(alloc, piece)?;
-        note_category(alloc, &mut notes, line, words.items())?;
+        match bad_category(alloc, line, piece)? {
+            Some(note) => notes.add(note)?,
+            None => {}
+        }
         line = next_number(line)?;
     }
     Ok(notes)
