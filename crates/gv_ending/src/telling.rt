@@ -28,7 +28,9 @@ fn tell_refusal<E: Sink>(alloc: Global, refusal: &Refusal, err: &mut E) -> u8
     let Ok(line) = line(alloc, refusal) else {
         return 5;
     };
-    match put_all(err, line.bytes()) {
+    let outcome = put_all(err, line.bytes());
+    drop(line);
+    match outcome {
         Ok(()) => status(refusal),
         Err(SinkFault::Failed) => status(refusal),
         Err(SinkFault::NoMemory) => 5,
