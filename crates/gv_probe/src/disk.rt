@@ -1,5 +1,5 @@
 //! Files and empty folders, of which nothing is told, as of those of a disk.
-ghost use Rattle.std.specs.Prelude.{⊥, None, []};
+ghost use Rattle.std.specs.Prelude.{None, []};
 
 use gv_base::{Files, Found, MAX_FILE_BYTES, NoMemory, Text, Texts, Tree, TreeFault};
 use std::alloc::Global;
