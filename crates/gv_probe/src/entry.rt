@@ -38,13 +38,18 @@ fn is_digest(call: &str, given: &Given, told: &mut Telling) -> bool {
 }
 
 fn of_entry(what: &str, entry: Entry, told: &mut Telling) {
+    part_of(what, &entry, told);
+    drop(entry);
+}
+
+fn part_of(what: &str, entry: &Entry, told: &mut Telling) {
     match what {
-        "package" => package(&entry, told),
-        "digest" => digest(&entry, told),
-        "eclasses" => eclasses(&entry, told),
-        "errors" => errors(&entry, told),
-        "flags" => flags(&entry, told),
-        "classes" => classes(&entry, told),
+        "package" => package(entry, told),
+        "digest" => digest(entry, told),
+        "eclasses" => eclasses(entry, told),
+        "errors" => errors(entry, told),
+        "flags" => flags(entry, told),
+        "classes" => classes(entry, told),
         _ => told.say("no such call"),
     }
 }
