@@ -3,7 +3,6 @@ ghost use Rattle.std.specs.Prelude.{Some};
 ghost use Rattle.gv_atom.specs.Parts.{IsPartFault};
 
 use gv_base::NoMemory;
-use std::alloc::AllocError;
 
 /// The part of an atom that is bad.
 #[derive(Clone, Copy, Debug)]
@@ -38,17 +37,6 @@ impl From<NoMemory> for AtomFault {
     ghost from_gives = { λ _ fault. fault ≡ NoMemory };
 
     fn from(_refused: NoMemory) -> AtomFault {
-        AtomFault::NoMemory
-    }
-}
-
-impl From<AllocError> for AtomFault {
-    ghost use Rattle.std.specs.Prelude.{◌≡◌};
-    ghost use Rattle.gv_atom.specs.declared.fault.AtomFault.TheVariants.{NoMemory};
-
-    ghost from_gives = { λ _ fault. fault ≡ NoMemory };
-
-    fn from(_refused: AllocError) -> AtomFault {
         AtomFault::NoMemory
     }
 }

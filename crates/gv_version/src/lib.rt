@@ -1,6 +1,6 @@
 //! Versions and names of packages, as the Package Manager Specification (PMS, chapter 3) has them.
 //!
-//! Stands on nothing but std. Layers above use `Version` by its text, `compare`, `same_but_revision`
+//! Layers above use `Version` by its text, `compare`, `same_but_revision`
 //! and `begins` by the version order, and the tests of names; nowhere else are a version's bytes read.
 #![tactic(auto)]
 

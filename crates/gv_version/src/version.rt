@@ -6,14 +6,15 @@ ghost use Rattle.gv_version.specs.Form.{is_version};
 ghost use Rattle.gv_version.specs.Faults.{IsFaultOf};
 
 use crate::form::{has_form, long_run, longest_form};
-use std::alloc::{AllocError, Global};
+use gv_base::{NoMemory, Text};
+use std::alloc::Global;
 use std::marker::Model;
 
 /// A version, which keeps its text. Two are equal (`==`) where the order of versions says so, as `1` and `1-r0` are,
 /// whatever their texts.
 #[derive(Drop)]
 pub struct Version {
-    text: Vec<u8>,
+    text: Text,
 }
 
 impl Model for Version {
@@ -22,9 +23,9 @@ impl Model for Version {
 
     ghost Value = { List ℕ };
 
-    ghost view = { λ v. v.text.items };
+    ghost view = { λ v. v.text };
 
-    ghost invariant = { λ v. is_version v.text.items ≡ true };
+    ghost invariant = { λ v. is_version v.text ≡ true };
 }
 
 /// Why bytes are no version. Places are counted in bytes from 0.
@@ -41,17 +42,17 @@ pub enum VersionFault {
 
 impl Version {
     /// The version with this text, which has the form. O(bytes).
-    pub fn of(alloc: Global, text: &[u8]) -> Result<Version, AllocError>
+    pub fn of(alloc: Global, text: &[u8]) -> Result<Version, NoMemory>
         requires { is_version text.now ≡ true }
         ensures { IfOk result (λ version. version ≡ text.now) }
     {
         Ok(Version {
-            text: text.to_vec(alloc)?,
+            text: Text::of(alloc, text)?,
         })
     }
 
     /// The version with the same text. O(bytes).
-    pub fn copy(&self, alloc: Global) -> Result<Version, AllocError>
+    pub fn copy(&self, alloc: Global) -> Result<Version, NoMemory>
         ensures { IfOk result (λ copy. copy ≡ self.now) }
     {
         Version::of(alloc, self.text())
@@ -62,7 +63,7 @@ impl Version {
         ensures text { result.now ≡ self.now }
         ensures version { is_version self.now ≡ true }
     {
-        &self.text
+        self.text.bytes()
     }
 }
 
@@ -85,7 +86,7 @@ pub fn read_version(alloc: Global, bytes: &[u8]) -> Result<Version, VersionFault
             Err(_) => Err(VersionFault::NoMemory),
         };
     }
-    match bytes.to_vec(alloc) {
+    match Text::of(alloc, bytes) {
         Ok(text) => Ok(Version { text }),
         Err(_) => Err(VersionFault::NoMemory),
     }
