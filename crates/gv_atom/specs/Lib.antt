@@ -1,6 +1,7 @@
 pub mod Fault
 pub mod Grammar
 pub mod Items
+pub mod ItemsKept
 pub mod Laws
 pub mod Matching
 pub mod Naming

@@ -35,10 +35,11 @@ pub struct UseItem {
     pub missing: Option<bool>,
 }
 
-/// Items, in the order in which they stand.
+/// Items, in the order in which they stand. Most atoms have none, and take one word for that.
 #[derive(Drop)]
 pub struct UseItems {
-    items: Vec<UseItem>,
+    alloc: Global,
+    items: Option<Box<Vec<UseItem>>>,
 }
 
 impl Model for UseItems {
@@ -47,7 +48,9 @@ impl Model for UseItems {
 
     ghost Value = { List UseItem };
 
-    ghost view = { λ u. u.items.items };
+    ghost use Rattle.gv_atom.specs.ItemsKept.{items_in};
+
+    ghost view = { λ u. items_in u.items };
 }
 
 impl Ask {
@@ -96,9 +99,7 @@ impl UseItems {
     pub fn new(alloc: Global) -> Self
         ensures { result ≡ [] }
     {
-        UseItems {
-            items: Vec::new(alloc),
-        }
+        UseItems { alloc, items: None }
     }
 
     /// Adds an item at the end. After an error the list is unchanged.
@@ -106,7 +107,14 @@ impl UseItems {
         ensures ok { OnOk result (self.new ≡ self.old ++ item ∷ []) }
         ensures err { OnErr result (self.new ≡ self.old) }
     {
-        self.items.push(item)?;
+        match &mut self.items {
+            Some(items) => items.push(item)?,
+            None => {
+                let mut items = Vec::new(self.alloc);
+                items.push(item)?;
+                self.items = Some(Box::new(self.alloc, items)?);
+            }
+        }
         Ok(())
     }
 
@@ -114,14 +122,19 @@ impl UseItems {
     pub(crate) fn trim(&mut self)
         ensures { self.new ≡ self.old }
     {
-        self.items.shrink_to_fit();
+        if let Some(items) = &mut self.items {
+            items.shrink_to_fit();
+        }
     }
 
     /// The items, in order.
     pub fn items(&self) -> &[UseItem]
         ensures { result.now ≡ self.now }
     {
-        &self.items
+        match &self.items {
+            Some(items) => items,
+            None => &[],
+        }
     }
 
     /// The same items once more. O(bytes).
