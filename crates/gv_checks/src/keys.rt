@@ -4,6 +4,7 @@
 //! A key costs what `gv_lower` says of the key of its class.
 ghost use Rattle.std.specs.Prelude.{◌≡◌, true, ◌++◌, [], option_map, unwrap_or, IfOk, OnOk};
 ghost use Rattle.std.specs.Option.{option_copied};
+ghost use Rattle.gv_entry.specs.Queries.{class_in};
 ghost use Rattle.gv_lower.specs.Keys.{required_key};
 ghost use Rattle.gv_visible.specs.Candidates.{test_of};
 ghost use Rattle.gv_checks.specs.Alike.{first_at};
@@ -15,8 +16,8 @@ ghost use Rattle.gv_checks.specs.Shared.{key_of};
 
 use crate::alike::Firsts;
 use gv_base::NoMemory;
-use gv_entry::Body;
-use gv_expr::{DepExpr, UseExpr};
+use gv_entry::{Body, class_in};
+use gv_expr::UseExpr;
 use gv_facts::{Class, Pkg, Pkgs};
 use gv_lower::{ClassSites, RequiredFlags, add_class_key, add_required_key};
 use gv_plain::JudgedPkg;
@@ -56,11 +57,11 @@ impl<'a> PkgSites<'a> {
         Ok(PkgSites {
             firsts,
             required: required_in(alloc, ruled, pkg, &body.required)?,
-            depend: sites_in(alloc, ruled, pkg, pkgs, &body.depend)?,
-            bdepend: sites_if(alloc, ruled, pkg, pkgs, bdepend, &body.bdepend)?,
-            rdepend: sites_if(alloc, ruled, pkg, pkgs, rdepend, &body.rdepend)?,
-            pdepend: sites_if(alloc, ruled, pkg, pkgs, pdepend, &body.pdepend)?,
-            idepend: sites_if(alloc, ruled, pkg, pkgs, idepend, &body.idepend)?,
+            depend: sites_in(alloc, ruled, pkg, pkgs, body, Class::Depend)?,
+            bdepend: sites_if(alloc, ruled, pkg, pkgs, bdepend, body, Class::Bdepend)?,
+            rdepend: sites_if(alloc, ruled, pkg, pkgs, rdepend, body, Class::Rdepend)?,
+            pdepend: sites_if(alloc, ruled, pkg, pkgs, pdepend, body, Class::Pdepend)?,
+            idepend: sites_if(alloc, ruled, pkg, pkgs, idepend, body, Class::Idepend)?,
         })
     }
 
@@ -144,11 +145,12 @@ fn sites_in<'a>(
     ruled: &'a RuledFlags<'a>,
     pkg: &'a Pkg,
     pkgs: &'a Pkgs,
-    class: &'a Option<DepExpr>,
+    body: &'a Body,
+    class: Class,
 ) -> Result<Option<ClassSites<'a>>, NoMemory>
-    ensures { IfOk result (λ sites. sites ≡ option_map (sites_in ruled.now pkg.now pkgs.now) class.now) }
+    ensures { IfOk result (λ sites. sites ≡ option_map (sites_in ruled.now pkg.now pkgs.now) (class_in body.now class)) }
 {
-    match class {
+    match class_in(body, class) {
         Some(class) => Ok(Some(ClassSites::new(alloc, ruled, pkg, pkgs, class)?)),
         None => Ok(None),
     }
@@ -161,12 +163,13 @@ fn sites_if<'a>(
     pkg: &'a Pkg,
     pkgs: &'a Pkgs,
     is_first: bool,
-    class: &'a Option<DepExpr>,
+    body: &'a Body,
+    class: Class,
 ) -> Result<Option<ClassSites<'a>>, NoMemory>
-    ensures { IfOk result (λ sites. is_first ≡ true → sites ≡ option_map (sites_in ruled.now pkg.now pkgs.now) class.now) }
+    ensures { IfOk result (λ sites. is_first ≡ true → sites ≡ option_map (sites_in ruled.now pkg.now pkgs.now) (class_in body.now class)) }
 {
     if is_first {
-        sites_in(alloc, ruled, pkg, pkgs, class)
+        sites_in(alloc, ruled, pkg, pkgs, body, class)
     } else {
         Ok(None)
     }

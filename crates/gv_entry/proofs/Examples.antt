@@ -1,12 +1,10 @@
 -- Values of the definitions on worked examples.
-use Rattle.std.specs.Prelude.{◌≡◌, ℕ, Bool, true, false, List, [], ◌∷◌, ◌++◌, length, Option, None, Some, is_some, option_map, map, codes, refl}
+use Rattle.std.specs.Prelude.{◌≡◌, ℕ, Bool, true, false, List, [], ◌∷◌, ◌++◌, Option, None, Some, is_some, option_map, map, codes, refl}
 use Rattle.std.specs.Fmt.{digits}
 use Rattle.gv_base.specs.Words.{joined}
 use Rattle.gv_expr.specs.declared.fault.ExprKind.TheVariants.{TooMany, Depth, Stray, NotHere, BadFlag, BadAtom, Unclosed}
-use Rattle.gv_expr.specs.Dep.{Dep}
 use Rattle.gv_expr.specs.DepGrammar.{item_text}
 use Rattle.gv_expr.specs.DepRead.{read_dep}
-use Rattle.gv_expr.specs.Required.{Req}
 use Rattle.gv_expr.specs.RequiredRead.{read_required}
 use Rattle.gv_facts.specs.declared.kinds.Class.TheVariants.{Required, Depend, Bdepend, Rdepend, Pdepend, Idepend}
 use Rattle.gv_facts.specs.declared.kinds.Eapi.{Eapi}

@@ -24,7 +24,7 @@ use Rattle.gv_facts.specs.declared.kinds.FlagState.TheVariants.{Absent, Off, On,
 use Rattle.gv_facts.specs.declared.pkg.Pkg.{Pkg}
 use Rattle.gv_entry.specs.Allowed.{Allowed, Failing, IsFit, Parent, agrees, assignment, bits_of, class_holds, is_allowed, is_failing, is_forced, is_free, item_holds, parent_state, query_flags, required_holds, turned, value_or, values_by}
 use Rattle.gv_entry.specs.Holds.{empty_holds}
-use Rattle.gv_entry.specs.Laws.{Agree, AllowedLaw, BitsLaw, FailingLaw, LeastAllowedLaw, LeastFailingLaw, LeastLaw, MentionsLaw}
+use Rattle.gv_entry.specs.Laws.{Agree, AllowedLaw, BitsLaw, FailingLaw, LeastAllowedLaw, LeastFailingLaw, LeastLaw}
 use Rattle.gv_entry.specs.Least.{least}
 use Rattle.gv_entry.specs.LeastAssignments.{IsLeastAllowed, IsLeastFailing, IsLesser, NoneAllowed, NoneFailing}
 use Rattle.gv_entry.specs.Queries.{class_flags, required_flags}

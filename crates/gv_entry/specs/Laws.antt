@@ -8,7 +8,7 @@ use Rattle.gv_base.specs.Order.{has_text}
 use Rattle.gv_base.specs.Words.{lines_of}
 use Rattle.gv_expr.specs.Dep.{Dep, Deps, deps}
 use Rattle.gv_expr.specs.Mentions.{dep_mentions, req_mentions}
-use Rattle.gv_expr.specs.Required.{Req, Reqs, reqs}
+use Rattle.gv_expr.specs.Required.{Req, Reqs}
 use Rattle.gv_facts.specs.declared.kinds.Level.{Level}
 use Rattle.gv_facts.specs.declared.pkg.Pkg.{Pkg}
 use Rattle.gv_facts.specs.declared.profile.Profile.{Profile}

@@ -1,5 +1,5 @@
 -- Words of private contracts alone, no rule: what is left of a list of eclasses while it is read.
-use Rattle.std.specs.Prelude.{ℕ, ◌-◌, List, [], Option, None, Some}
+use Rattle.std.specs.Prelude.{ℕ, List, [], Option, None, Some}
 use Rattle.std.specs.Borrow.{Bor}
 use Rattle.gv_entry.specs.Digests.{between_tabs}
 

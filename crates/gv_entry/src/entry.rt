@@ -1,8 +1,8 @@
-//! What a cache entry says. A copy costs O(bytes), the other calls O(1).
+//! What a cache entry says. A copy costs O(bytes), but for its dependencies, which it shares; the other calls cost O(1).
 ghost use Rattle.std.specs.Prelude.{◌≡◌, [], ◌∷◌, ◌++◌, IfOk, OnOk, OnErr};
 
 use gv_base::{NoMemory, Text};
-use gv_expr::{DepExpr, UseExpr};
+use gv_expr::{SharedDep, UseExpr};
 use gv_facts::Pkg;
 use std::alloc::Global;
 use std::marker::Model;
@@ -17,21 +17,21 @@ pub struct Eclass {
 }
 
 /// The expressions of a package, each `None` where it isn't in the grammar. A class that the EAPI lacks is empty, and
-/// all are where the EAPI isn't supported.
+/// all are where the EAPI isn't supported. RDEPEND, which in most entries has the text of DEPEND, shares its expression then.
 #[derive(Drop)]
 pub struct Body {
     /// The value of REQUIRED_USE.
     pub required: Option<UseExpr>,
     /// The value of DEPEND.
-    pub depend: Option<DepExpr>,
+    pub depend: Option<SharedDep>,
     /// The value of BDEPEND; empty before EAPI 7.
-    pub bdepend: Option<DepExpr>,
+    pub bdepend: Option<SharedDep>,
     /// The value of RDEPEND.
-    pub rdepend: Option<DepExpr>,
+    pub rdepend: Option<SharedDep>,
     /// The value of PDEPEND.
-    pub pdepend: Option<DepExpr>,
+    pub pdepend: Option<SharedDep>,
     /// The value of IDEPEND; empty before EAPI 8.
-    pub idepend: Option<DepExpr>,
+    pub idepend: Option<SharedDep>,
 }
 
 /// What is wrong with an entry, as it is told.
@@ -76,11 +76,11 @@ impl Body {
     {
         Ok(Body {
             required: copy_required(alloc, &self.required)?,
-            depend: copy_dep(alloc, &self.depend)?,
-            bdepend: copy_dep(alloc, &self.bdepend)?,
-            rdepend: copy_dep(alloc, &self.rdepend)?,
-            pdepend: copy_dep(alloc, &self.pdepend)?,
-            idepend: copy_dep(alloc, &self.idepend)?,
+            depend: share(&self.depend)?,
+            bdepend: share(&self.bdepend)?,
+            rdepend: share(&self.rdepend)?,
+            pdepend: share(&self.pdepend)?,
+            idepend: share(&self.idepend)?,
         })
     }
 }
@@ -226,11 +226,11 @@ fn copy_required(alloc: Global, required: &Option<UseExpr>) -> Result<Option<Use
     }
 }
 
-fn copy_dep(alloc: Global, dep: &Option<DepExpr>) -> Result<Option<DepExpr>, NoMemory>
-    ensures { IfOk result (λ copy. copy ≡ dep.now) }
+fn share(dep: &Option<SharedDep>) -> Result<Option<SharedDep>, NoMemory>
+    ensures { IfOk result (λ shared. shared ≡ dep.now) }
 {
     match dep {
-        Some(dep) => Ok(Some(dep.copy(alloc)?)),
+        Some(dep) => Ok(Some(dep.share()?)),
         None => Ok(None),
     }
 }

@@ -2,7 +2,7 @@
 ghost use Rattle.std.specs.Prelude.{◌≡◌, ◌+◌, ◌++◌, [], true, codes, drop, None, Some, take, unwrap_or, IfOk, IsSome, OnOk};
 ghost use Rattle.gv_expr.specs.RequiredRead.{read_required};
 ghost use Rattle.gv_expr.specs.TokenFaults.{dependency};
-ghost use Rattle.gv_facts.specs.declared.kinds.Class.TheVariants.{Required};
+ghost use Rattle.gv_facts.specs.declared.kinds.Class.TheVariants.{Depend, Rdepend, Required};
 ghost use Rattle.gv_facts.specs.Classes.{class_text};
 ghost use Rattle.gv_base.specs.Words.{tokens_of};
 ghost use Rattle.gv_version.specs.Names.{split_pf};
@@ -17,7 +17,7 @@ use crate::entry_values::{
 };
 use crate::{Body, Entry, EntryErrors};
 use gv_base::{NoMemory, Text, Texts, tokens_of};
-use gv_expr::{DepExpr, ExprFault, UseExpr, read_dep, read_required};
+use gv_expr::{DepExpr, ExprFault, SharedDep, UseExpr, read_dep, read_required};
 use gv_facts::{Class, Eapi, Pkg, has_class};
 use gv_version::{Version, split_pf, split_pf_law};
 use std::alloc::Global;
@@ -60,7 +60,7 @@ pub fn read_entry(
         }
         None => {
             note_text(alloc, b"EAPI: unsupported", &mut errors)?;
-            entry_with(alloc, &text, None, empty_body(alloc), errors)
+            entry_with(alloc, &text, None, empty_body(alloc)?, errors)
         }
     }
 }
@@ -90,21 +90,47 @@ fn dep_in(
     text: &EntryText<'_>,
     class: Class,
     errors: &mut EntryErrors,
-) -> Result<Option<DepExpr>, NoMemory>
+) -> Result<Option<SharedDep>, NoMemory>
     requires { language_of class ≡ dependency }
     ensures dep { IfOk result (λ dep. dep ≡ dep_in eapi text.now class) }
     ensures errors { OnOk result (errors.new ≡ errors.old ++ errors_of (class_details eapi text.now class)) }
 {
     if !has_class(eapi, class) {
-        return Ok(Some(DepExpr::new(alloc)));
+        return Ok(Some(no_dep(alloc)?));
     }
     match read_dep(alloc, text.of_class(class)) {
-        Ok(dep) => Ok(Some(dep)),
+        Ok(dep) => Ok(Some(SharedDep::new(alloc, dep)?)),
         Err(ExprFault::Bad { token, kind }) => {
             note_token(alloc, class, token, kind, errors)?;
             Ok(None)
         }
         Err(ExprFault::NoMemory) => Err(NoMemory),
+    }
+}
+
+// No dependency.
+fn no_dep(alloc: Global) -> Result<SharedDep, NoMemory>
+    ensures { IfOk result (λ dep. dep ≡ []) }
+{
+    SharedDep::new(alloc, DepExpr::new(alloc))
+}
+
+// RDEPEND, by the expression of DEPEND where that has the same text.
+fn rdepend_in(
+    alloc: Global,
+    eapi: Eapi,
+    text: &EntryText<'_>,
+    depend: &Option<SharedDep>,
+    errors: &mut EntryErrors,
+) -> Result<Option<SharedDep>, NoMemory>
+    requires { depend.now ≡ dep_in eapi text.now Depend }
+    ensures dep { IfOk result (λ dep. dep ≡ dep_in eapi text.now Rdepend) }
+    ensures errors { OnOk result (errors.new ≡ errors.old ++ errors_of (class_details eapi text.now Rdepend)) }
+{
+    let same = text.of_class(Class::Depend) == text.of_class(Class::Rdepend);
+    match depend {
+        Some(dep) if same => Ok(Some(dep.share()?)),
+        _ => dep_in(alloc, eapi, text, Class::Rdepend, errors),
     }
 }
 
@@ -117,28 +143,33 @@ fn body_of(
     ensures body { IfOk result (λ body. body ≡ body_of (Some eapi) text.now) }
     ensures errors { OnOk result (errors.new ≡ errors.old ++ errors_of (body_details eapi text.now)) }
 {
+    let required = required_in(alloc, eapi, text, errors)?;
+    let depend = dep_in(alloc, eapi, text, Class::Depend, errors)?;
+    let bdepend = dep_in(alloc, eapi, text, Class::Bdepend, errors)?;
+    let rdepend = rdepend_in(alloc, eapi, text, &depend, errors)?;
     Ok(Body {
-        required: required_in(alloc, eapi, text, errors)?,
-        depend: dep_in(alloc, eapi, text, Class::Depend, errors)?,
-        bdepend: dep_in(alloc, eapi, text, Class::Bdepend, errors)?,
-        rdepend: dep_in(alloc, eapi, text, Class::Rdepend, errors)?,
+        required,
+        depend,
+        bdepend,
+        rdepend,
         pdepend: dep_in(alloc, eapi, text, Class::Pdepend, errors)?,
         idepend: dep_in(alloc, eapi, text, Class::Idepend, errors)?,
     })
 }
 
 // The expressions of an entry whose EAPI isn't supported.
-fn empty_body(alloc: Global) -> Body
-    ensures { result ≡ body_of None [] }
+fn empty_body(alloc: Global) -> Result<Body, NoMemory>
+    ensures { IfOk result (λ body. body ≡ body_of None []) }
 {
-    Body {
+    let none = no_dep(alloc)?;
+    Ok(Body {
         required: Some(UseExpr::new(alloc)),
-        depend: Some(DepExpr::new(alloc)),
-        bdepend: Some(DepExpr::new(alloc)),
-        rdepend: Some(DepExpr::new(alloc)),
-        pdepend: Some(DepExpr::new(alloc)),
-        idepend: Some(DepExpr::new(alloc)),
-    }
+        depend: Some(none.share()?),
+        bdepend: Some(none.share()?),
+        rdepend: Some(none.share()?),
+        pdepend: Some(none.share()?),
+        idepend: Some(none),
+    })
 }
 
 // The name and the version that a PF is divided into. A place past 2^32 finds no memory.

@@ -1,9 +1,10 @@
 //! The classes of a package's body, as queries ask of them. O(1).
 ghost use Rattle.std.specs.Prelude.{◌≡◌, MatchOption, None, Some};
+ghost use Rattle.std.specs.Option.{option_copied};
 ghost use Rattle.gv_entry.specs.Queries.{class_in};
 
 use crate::Body;
-use gv_expr::DepExpr;
+use gv_expr::{DepExpr, SharedDep};
 use gv_facts::Class;
 
 /// The dependencies of the class; `None` exactly where it is broken. REQUIRED_USE has none.
@@ -12,10 +13,19 @@ pub fn class_in(body: &Body, class: Class) -> Option<&DepExpr>
 {
     match class {
         Class::Required => None,
-        Class::Depend => body.depend.as_ref(),
-        Class::Bdepend => body.bdepend.as_ref(),
-        Class::Rdepend => body.rdepend.as_ref(),
-        Class::Pdepend => body.pdepend.as_ref(),
-        Class::Idepend => body.idepend.as_ref(),
+        Class::Depend => expr_of(&body.depend),
+        Class::Bdepend => expr_of(&body.bdepend),
+        Class::Rdepend => expr_of(&body.rdepend),
+        Class::Pdepend => expr_of(&body.pdepend),
+        Class::Idepend => expr_of(&body.idepend),
+    }
+}
+
+fn expr_of(dep: &Option<SharedDep>) -> Option<&DepExpr>
+    ensures { option_copied result ≡ dep.now }
+{
+    match dep {
+        Some(dep) => Some(dep.expr()),
+        None => None,
     }
 }

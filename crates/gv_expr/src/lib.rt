@@ -17,6 +17,7 @@ mod open_groups;
 mod printing;
 mod reading;
 mod required;
+mod shared_dep;
 mod token;
 
 pub use dep::{DepExpr, DepTree};
@@ -26,4 +27,5 @@ pub use mentions::{Mentions, mentioned_dep, mentioned_required};
 pub use printing::{print_dep, print_item, print_required};
 pub use reading::{read_dep, read_required};
 pub use required::{UseExpr, UseTree};
+pub use shared_dep::SharedDep;
 pub use token::Token;

@@ -7,9 +7,9 @@ use crate::given::Given;
 use crate::lower::{Case, case_of};
 use crate::written::Telling;
 use gv_base::NoMemory;
-use gv_entry::Body;
+use gv_entry::{Body, class_in};
 use gv_expr::{DepExpr, UseExpr};
-use gv_facts::{Level, Pkg, Pkgs, Profile, Profiles};
+use gv_facts::{Class, Level, Pkg, Pkgs, Profile, Profiles};
 use gv_lower::{ClassSites, RequiredFlags, add_class_key, add_required_key};
 use gv_usestate::{ProfileStates, RuledFlags};
 use gv_visible::{Candidates, visible};
@@ -129,7 +129,7 @@ fn add_both<'a>(
     if let Some(required) = &body.required {
         add_required(alloc, ruled, states, pkg, required, key)?;
     }
-    match &body.rdepend {
+    match class_in(body, Class::Rdepend) {
         Some(class) => add_class(alloc, pkgs, ruled, states, profile, pkg, class, key),
         None => Ok(()),
     }
