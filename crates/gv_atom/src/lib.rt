@@ -16,6 +16,7 @@ mod matching;
 mod naming;
 mod printing;
 mod reading;
+mod shared_atom;
 mod slots;
 
 pub use atom::{Atom, Block, CompareOp, SlotMark, SlotNeed};
@@ -25,3 +26,4 @@ pub use laws::atom_law;
 pub use matching::{matches, matches_named};
 pub use printing::print_atom;
 pub use reading::read_atom;
+pub use shared_atom::SharedAtom;

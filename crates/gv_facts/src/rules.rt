@@ -1,9 +1,9 @@
-//! Rules on flags (PMS chapter 5). A copy costs O(bytes), the other calls what `index` says.
+//! Rules on flags (PMS chapter 5). A copy costs O(bytes of flags), the other calls what `index` says.
 ghost use Rattle.std.specs.Prelude.{◌≡◌, [], ◌∷◌, ◌++◌, Some, filter, map, slice_get, IfOk, OnOk, OnErr};
 ghost use Rattle.gv_facts.specs.Places.{names_flag, places_of};
 
 use crate::index::{Index, next_place};
-use gv_atom::Atom;
+use gv_atom::SharedAtom;
 use gv_base::{NoMemory, Text};
 use std::alloc::Global;
 use std::marker::Model;
@@ -25,7 +25,7 @@ pub struct Rule {
     /// Whether it counts only where stable restrictions apply.
     pub stable: bool,
     /// The packages for which it counts, all where there is none.
-    pub atom: Option<Atom>,
+    pub atom: Option<SharedAtom>,
     /// The name alone, without the `-` of a rule that ends an effect.
     pub flag: Text,
     /// Whether the effect begins, or an earlier one ends (`-flag`).
@@ -40,7 +40,7 @@ impl Rule {
         Ok(Rule {
             effect: self.effect,
             stable: self.stable,
-            atom: copy_atom(alloc, &self.atom)?,
+            atom: share_atom(&self.atom)?,
             flag: self.flag.copy(alloc)?,
             on: self.on,
         })
@@ -117,11 +117,11 @@ impl Rules {
     }
 }
 
-fn copy_atom(alloc: Global, atom: &Option<Atom>) -> Result<Option<Atom>, NoMemory>
-    ensures { IfOk result (λ copy. copy ≡ atom.now) }
+fn share_atom(atom: &Option<SharedAtom>) -> Result<Option<SharedAtom>, NoMemory>
+    ensures { IfOk result (λ shared. shared ≡ atom.now) }
 {
     match atom {
-        Some(atom) => Ok(Some(atom.copy(alloc)?)),
+        Some(atom) => Ok(Some(atom.share()?)),
         None => Ok(None),
     }
 }

@@ -2,7 +2,7 @@
 ghost use Rattle.std.specs.Prelude.{IsSome};
 ghost use Rattle.gv_version.specs.Names.{split_pf};
 
-use gv_atom::{Atom, read_atom};
+use gv_atom::{Atom, SharedAtom, read_atom};
 use gv_base::{NoMemory, Text, Texts, words_of};
 use gv_entry::{Body, Entry, read_entry};
 use gv_facts::{Effect, Mask, Masks, Pkg, Pkgs, Profile, Rule, Rules, Status, ValueLists};
@@ -86,14 +86,19 @@ fn add_rule(alloc: Global, line: &str, rules: &mut Rules) -> Result<(), NoMemory
     let (kind, rest) = line.split_once(' ').unwrap_or((line, ""));
     match rest.split_once(' ') {
         Some((front, flag)) => match read_atom(alloc, front.as_bytes()) {
-            Ok(atom) => rules.add(rule(alloc, kind, Some(atom), flag)?),
+            Ok(atom) => rules.add(package_rule(alloc, kind, atom, flag)?),
             Err(_) => Ok(()),
         },
         None => rules.add(rule(alloc, kind, None, rest)?),
     }
 }
 
-fn rule(alloc: Global, kind: &str, atom: Option<Atom>, flag: &str) -> Result<Rule, NoMemory> {
+fn package_rule(alloc: Global, kind: &str, atom: Atom, flag: &str) -> Result<Rule, NoMemory> {
+    let atom = SharedAtom::new(alloc, atom)?;
+    rule(alloc, kind, Some(atom), flag)
+}
+
+fn rule(alloc: Global, kind: &str, atom: Option<SharedAtom>, flag: &str) -> Result<Rule, NoMemory> {
     let name = Text::of(alloc, flag.strip_prefix("-").unwrap_or(flag).as_bytes())?;
     Ok(Rule {
         effect: if kind.ends_with("mask") {

@@ -117,7 +117,7 @@ pub(crate) fn add_rule(alloc: Global, rule: &Rule, told: &mut Telling) -> Result
     }
     told.add(b" ");
     if let Some(atom) = &rule.atom {
-        told.add(print_atom(alloc, atom)?.bytes());
+        told.add(print_atom(alloc, atom.atom())?.bytes());
         told.add(b" ");
     }
     if !rule.on {

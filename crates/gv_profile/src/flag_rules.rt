@@ -1,4 +1,4 @@
-//! The rules on flags of a profile directory. Reading costs O(bytes), and a copy of the atom for each flag of a line.
+//! The rules on flags of a profile directory. Reading costs O(bytes). The rules of a line share its atom.
 ghost use Rattle.std.specs.Prelude.{◌≡◌, ◌++◌, ◌∷◌, [], false, true, map, IfOk, OnOk};
 ghost use Rattle.gv_profile.specs.FlagLines.{is_off};
 ghost use Rattle.gv_profile.specs.Lines.{file_lines};
@@ -9,7 +9,7 @@ use crate::flag_lines::{FlagLine, flag_line, flag_of, flag_words};
 use crate::lines::line_words;
 use crate::room::MAX_FLAGS;
 use crate::{DirFiles, NamedFiles};
-use gv_atom::Atom;
+use gv_atom::{Atom, SharedAtom};
 use gv_base::{Cut, NoMemory, Text, next_piece};
 use gv_facts::{Effect, Rule, Rules};
 use std::alloc::Global;
@@ -105,11 +105,21 @@ fn is_off(word: &[u8]) -> bool
     }
 }
 
-fn copy_atom(alloc: Global, atom: &Option<Atom>) -> Result<Option<Atom>, NoMemory>
-    ensures { IfOk result (λ copy. copy ≡ atom.now) }
+// The atom of a line, which its rules share.
+fn shared_atom(alloc: Global, atom: Option<Atom>) -> Result<Option<SharedAtom>, NoMemory>
+    ensures { IfOk result (λ shared. shared ≡ atom) }
 {
     match atom {
-        Some(atom) => Ok(Some(atom.copy(alloc)?)),
+        Some(atom) => Ok(Some(SharedAtom::new(alloc, atom)?)),
+        None => Ok(None),
+    }
+}
+
+fn share_atom(atom: &Option<SharedAtom>) -> Result<Option<SharedAtom>, NoMemory>
+    ensures { IfOk result (λ shared. shared ≡ atom.now) }
+{
+    match atom {
+        Some(atom) => Ok(Some(atom.share()?)),
         None => Ok(None),
     }
 }
@@ -117,12 +127,12 @@ fn copy_atom(alloc: Global, atom: &Option<Atom>) -> Result<Option<Atom>, NoMemor
 fn rule_of(
     alloc: Global,
     file: RuleFile,
-    atom: &Option<Atom>,
+    atom: &Option<SharedAtom>,
     word: &[u8],
 ) -> Result<Rule, NoMemory>
     ensures { IfOk result (λ rule. rule ≡ rule_of file atom.now word.now) }
 {
-    let atom = copy_atom(alloc, atom)?;
+    let atom = share_atom(atom)?;
     let flag = Text::of(alloc, flag_of(word))?;
     Ok(Rule {
         effect: file.effect,
@@ -138,7 +148,7 @@ fn add_words(
     alloc: Global,
     rules: &mut Rules,
     file: RuleFile,
-    atom: &Option<Atom>,
+    atom: &Option<SharedAtom>,
     words: &[Text],
 ) -> Result<(), NoMemory>
     ensures { OnOk result (rules.new ≡ rules.old ++ map (rule_of file atom.now) words.now) }
@@ -160,7 +170,10 @@ fn add_line(
     let flags = flag_words(file.by_package, words);
     match flag_line(alloc, file.by_package, words)? {
         FlagLine::Blank => Ok(()),
-        FlagLine::Good { atom } => add_words(alloc, rules, file, &atom, flags),
+        FlagLine::Good { atom } => {
+            let atom = shared_atom(alloc, atom)?;
+            add_words(alloc, rules, file, &atom, flags)
+        }
         FlagLine::Bad { .. } => Ok(()),
     }
 }

@@ -33,7 +33,7 @@ fn applies(pkg: &Pkg, rule: &Rule) -> bool
     ensures { result ≡ applies pkg.now rule.now }
 {
     match &rule.atom {
-        Some(atom) => matches_pkg(atom, pkg),
+        Some(atom) => matches_pkg(atom.atom(), pkg),
         None => true,
     }
 }

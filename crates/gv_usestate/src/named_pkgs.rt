@@ -51,7 +51,8 @@ impl<'a> NamedPkgs<'a> {
 fn add_named<'a>(keys: &mut IndexSet<(&'a [u8], &'a [u8])>, rule: &'a Rule) -> Result<(), NoMemory>
     ensures { OnOk result ((category name : List ℕ) → has_key keys.new.keys category name ≡ (has_key keys.old.keys category name || names_pkg category name rule.now)) }
 {
-    if let Some(atom) = &rule.atom {
+    if let Some(shared) = &rule.atom {
+        let atom = shared.atom();
         let category = atom.category.bytes();
         let name = atom.name.bytes();
         keys.insert((category, name))?;

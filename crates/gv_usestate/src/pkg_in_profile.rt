@@ -96,7 +96,7 @@ impl<'a> PkgInProfile<'a> {
             return false;
         }
         match &rule.atom {
-            Some(atom) => matches_pkg(atom, self.pkg),
+            Some(atom) => matches_pkg(atom.atom(), self.pkg),
             None => true,
         }
     }
